@@ -1,0 +1,35 @@
+-- Numbers as a text has them; areas a little longer than a print needs, and what they hold after it.
+use Prim.Native.Nat.{ℕ, _+_, _-_, _*_}
+use Prim.Native.Char.{Char, code}
+use Prim.Native.String.{String}
+use Prim.Native.String
+use mathlib.Core.Bool.{true, false}
+use mathlib.Core.List.{List, [], _∷_, _++_}
+use lib.Dec.{eqb}
+use lib.ListN.{length, replicate}
+use Rattle.lister.specs.declared.Answer.{Answer}
+use Rattle.lister.specs.Prints.{Areas, Outcome}
+
+-- numbers in digits, a blank between two, of which the first has begun
+unfoldable pub numbersFrom : ℕ → String → List ℕ
+numbersFrom n String.[] = n ∷ []
+numbersFrom n (String._∷_ c s) =
+    elim (eqb (code c) 32) [ true ↦ n ∷ numbersFrom 0 s | false ↦ numbersFrom (n * 10 + (code c - 48)) s ]
+
+unfoldable pub numbers : String → List ℕ
+unfolding numbersFrom
+numbers String.[] = []
+numbers (String._∷_ c s) = numbersFrom (code c - 48) s
+
+-- the areas for so many document rows, text bytes and listed bytes, each with three more, and all filled with 7
+unfoldable pub lent : ℕ → ℕ → ℕ → Areas
+lent rows bytes length =
+    record { rows = replicate (rows * 7 + 3) 7; text = replicate (bytes + 3) 7; listing = replicate (length + 3) 7 }
+
+-- "Success .. the document, then zeros"; the listing area is not touched past the listing
+unfoldable pub done : Answer → List ℕ → List ℕ → List ℕ → Outcome
+done answer rows text listing =
+    record {
+      answer = answer;
+      areas = record { rows = rows ++ (0 ∷ 0 ∷ 0 ∷ []); text = text ++ (0 ∷ 0 ∷ 0 ∷ []); listing = listing ++ (7 ∷ 7 ∷ 7 ∷ []) };
+    }

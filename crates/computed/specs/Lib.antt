@@ -1,0 +1,11 @@
+pub mod Areas
+pub mod Part0
+pub mod Part1
+pub mod Part2
+pub mod Part3
+pub mod Part4
+pub mod Part5
+pub mod Part6
+pub mod Part7
+pub mod Part8
+pub mod Part9

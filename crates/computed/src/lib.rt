@@ -1,0 +1,1 @@
+// Recorded prints of the published Rust, computed by the definitions.

@@ -1,0 +1,55 @@
+-- What the functions of the layout ask and ensure.
+use Prim.Native.Nat.{ℕ, _+_, _-_, _*_, _<_, _≤_}
+use mathlib.Core.Bool.{Bool}
+use mathlib.Core.List.{List}
+use mathlib.Core.Path.{_≡_}
+use lib.ListN.{length}
+use Rattle.document.specs.Rows.{word, docAt, Valid}
+use Rattle.layout.specs.declared.cursor.Cursor.{Cursor}
+use Rattle.layout.specs.Layout.{Piece, after, run, layout}
+use Rattle.layout.specs.Listing.{pieceBytes, bytesOf}
+use Rattle.layout.specs.Paint.{paint}
+
+-- the row that holds the cursor starts at end - width, which is not after the cursor
+abbrev pub Steady : ℕ → Cursor → Type 0
+Steady width c = c .end ≤ c .position + width
+
+-- one piece is emitted: the cursor goes from c to v, and the listing area from l to l′
+pub record Emitted (width : ℕ) (p : Piece) (c v : Cursor) (l l′ : List ℕ) : Type 0 where
+  pub cursor : v ≡ after width c p
+  pub bytes : l′ ≡ paint l (c .position) (pieceBytes p)
+
+-- some pieces are
+pub record Emitteds (width : ℕ) (ps : List Piece) (c v : Cursor) (l l′ : List ℕ) : Type 0 where
+  pub cursor : v ≡ run width c ps
+  pub bytes : l′ ≡ paint l (c .position) (bytesOf ps)
+
+-- the rows keep the row rules, there are so many of them and of text bytes, and the width is allowed
+pub record Given (rows texts : List ℕ) (width total count : ℕ) : Type 0 where
+  pub valid : Valid rows total count
+  pub long : count * 7 ≤ length rows
+  pub few : count ≤ 16384
+  pub size : total ≤ length texts
+  pub small : total ≤ 65536
+  pub narrow : width ≤ 65535
+
+-- row r is one of them, and the numbers stay far from the limits of the machine however the rows of its subtree are laid out
+pub record Room (rows texts : List ℕ) (r width nest next : ℕ) (c : Cursor) : Type 0 where
+  pub total : ℕ
+  pub count : ℕ
+  pub given : Given rows texts width total count
+  pub below : r < count
+  pub steady : Steady width c
+  pub position-room : c .position + word rows r 3 * 8589934592 ≤ 1152921504606846976
+  pub nest-room : nest + word rows r 3 * 64 ≤ 2097152
+  pub next-room : next + word rows r 3 * 4294967296 ≤ 1152921504606846976
+  pub test-room : c .tests + word rows r 3 ≤ 1152921504606846976
+
+-- the subtree of row r is laid out
+pub record LaidOut
+    (rows texts : List ℕ) (r width nest : ℕ) (flat : Bool) (next : ℕ) (c v : Cursor) (l l′ : List ℕ) : Type 0 where
+  pub laid :
+      (bound : ℕ) → r < bound → Emitteds width (layout width (docAt rows texts bound r) nest flat next c) c v l l′
+  pub steady : Steady width v
+  pub position-bound : v .position ≤ c .position + word rows r 3 * 8589934592
+  pub test-bound : v .tests ≤ c .tests + word rows r 3

@@ -1,0 +1,61 @@
+-- 01, From the lent areas: "1 to 6 .. change no area".
+use Prim.Native.Nat.{ℕ, _≤_}
+use native.Mathlib.Omega.{arith}
+use mathlib.Core.Bool.{Bool, true, false, cond}
+use mathlib.Core.List.{List}
+use mathlib.Core.Path.{_≡_, refl, sym, ap, _∙_}
+use lib.Dec.{ltb, eqb}
+use lib.ListN.{length}
+use Rattle.document.specs.Doc.{Doc}
+use Rattle.document.specs.Walk.{Marked, plain, Progress, going, stopped, walk}
+use Rattle.pool.specs.declared.Verdict.{Verdict}
+use Rattle.pool.specs.declared.Verdict.the-variants as verdicts
+use Rattle.lister.specs.declared.Answer.{Answer}
+use Rattle.lister.specs.declared.Answer.the-variants.{Done, Listing}
+use Rattle.lister.specs.Answers.{number, stopAnswer}
+use Rattle.lister.specs.Prints.{Areas, Outcome, untouched, cleared, listed, afterWalk, printDoc, checked}
+
+-- a print that has begun answers 0, or 7 and more
+unfoldable pub Late : ℕ → Type 0
+Late n = (1 ≤ n) → (n ≤ 6) → ⊥
+
+late-stop : (n at : ℕ) → Late (number (stopAnswer n at))
+unfolding Late stopAnswer number
+late-stop n at = by (eqb n 7) (eqb n 8) (eqb n 20)
+  where
+    by : (a b c : Bool) → Late (number (cond a (Answer.Names at) (cond b (Answer.Document at) (cond c (Answer.RowArea at) (Answer.TextArea at)))))
+    by true b c = λ h k. omega arith
+    by false true c = λ h k. omega arith
+    by false false true = λ h k. omega arith
+    by false false false = λ h k. omega arith
+
+late-listed : (rows bytes width : ℕ) (d : Doc) (areas : Areas) → Late (number (listed rows bytes width d areas .answer))
+unfolding Late listed number
+late-listed rows bytes width d areas = by (ltb (length (areas .listing)) _) _ _ _ _
+  where
+    by : (full : Bool) (a b c e : ℕ) → Late (number (cond full Listing (Done rows bytes a b c e)))
+    by true a b c e = λ h k. omega arith
+    by false a b c e = λ h k. omega arith
+
+late-walk : (p : Progress) (d : Doc) (width : ℕ) (areas : Areas) → Late (number (afterWalk p d width areas .answer))
+unfolding afterWalk cleared
+late-walk (stopped n at) d width areas = late-stop n at
+late-walk (going rows bytes) d width areas = late-listed rows bytes width d areas
+
+pub late-print : (m : Marked) (width : ℕ) (areas : Areas) → Late (number (printDoc m width areas .answer))
+unfolding printDoc
+late-print m width areas = late-walk (walk (length (areas .rows)) (length (areas .text)) m) (plain m) width areas
+
+-- "1 to 6 .. change no area"
+pub early-refusals-change-no-area :
+    (v : Verdict) (hasRoot sizes : Bool) (print : Outcome) (areas : Areas) → Late (number (print .answer)) →
+    1 ≤ number (checked v hasRoot sizes print areas .answer) → number (checked v hasRoot sizes print areas .answer) ≤ 6 →
+    checked v hasRoot sizes print areas .areas ≡ areas
+unfolding checked untouched Late
+early-refusals-change-no-area verdicts.Accepted true true print areas late h k = absurd (late h k)
+early-refusals-change-no-area verdicts.Accepted true false print areas late h k = refl
+early-refusals-change-no-area verdicts.Accepted false sizes print areas late h k = refl
+early-refusals-change-no-area verdicts.Words hasRoot sizes print areas late h k = refl
+early-refusals-change-no-area verdicts.Limit hasRoot sizes print areas late h k = refl
+early-refusals-change-no-area (verdicts.Strings row) hasRoot sizes print areas late h k = refl
+early-refusals-change-no-area (verdicts.Rows row) hasRoot sizes print areas late h k = refl

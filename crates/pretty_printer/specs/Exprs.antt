@@ -1,0 +1,96 @@
+-- 01, Expressions to documents.
+use Prim.Native.Nat.{ℕ, zero, suc, _+_}
+use mathlib.Core.List.{List, [], _∷_, map}
+use lib.ListN.{length}
+use Rattle.document.specs.Walk.{Marked, textᵐ, names}
+use Rattle.pool.specs.Tree.{Name, Level, Expr, var, sort, const, app, pi, lam, letᵉ, proj, nat, str, depth}
+use Rattle.pretty_printer.specs.Docs.{_⊹_, quoted, line, G, NG, Parenable, withInner, under, tile, number}
+use Rattle.pretty_printer.specs.Names.{nameDoc}
+use Rattle.pretty_printer.specs.Levels.{sortDoc}
+use Rattle.pretty_printer.specs.Binders.{Binder, binders, chainBody, pushed, inForce, bindersPar}
+
+-- "Variable: the name at its place, else its index in digits."; the names in force, innermost first
+unfoldable pub varDoc : List Name → ℕ → ℕ → Marked
+varDoc [] i index = number index
+varDoc (n ∷ ns) zero index = nameDoc n
+varDoc (n ∷ ns) (suc i) index = varDoc ns i index
+
+-- an application's head, and its arguments before others
+unfoldable pub appHead : Expr → Expr
+appHead (var i) = var i
+appHead (sort l) = sort l
+appHead (const n ls) = const n ls
+appHead (app f a) = appHead f
+appHead (pi p n s t b) = pi p n s t b
+appHead (lam p n s t b) = lam p n s t b
+appHead (letᵉ p n t v b d) = letᵉ p n t v b d
+appHead (proj n i e) = proj n i e
+appHead (nat s) = nat s
+appHead (str s) = str s
+
+unfoldable pub appArgs : Expr → List Expr → List Expr
+appArgs (var i) others = others
+appArgs (sort l) others = others
+appArgs (const n ls) others = others
+appArgs (app f a) others = appArgs f (a ∷ others)
+appArgs (pi p n s t b) others = others
+appArgs (lam p n s t b) others = others
+appArgs (letᵉ p n t v b d) others = others
+appArgs (proj n i e) others = others
+appArgs (nat s) others = others
+appArgs (str s) others = others
+
+module _ (indent : ℕ) where
+  -- "Application: tile of G(head under 1,023) and G(each argument under 1,024), all N(G), inner 1,023."
+  unfoldable pub appPar : (Expr → Parenable) → Expr → List Expr → Parenable
+  appPar pp head args =
+      withInner 1023 (NG indent (tile (G (under 1023 (pp head)) ∷ map (λ a. G (under 1024 (pp a))) args)))
+
+  -- a chain, whose `bs` are its binders: their names are in force from before its first row
+  unfoldable pub chainPar : (Expr → Parenable) → List Binder → ℕ → Expr → Parenable
+  chainPar pp bs outside body =
+      let p : Parenable = bindersPar indent pp bs (pp body) in
+      withInner (p .inner) (inForce bs outside (p .doc))
+
+  -- "Let: N(G("let"+" "+G(name+" "+":"+|+G(type under 1))+" "+":="+|+G(value)+";"))+|+body, all G, inner 0."; its name is in
+  -- force from before the body
+  unfoldable pub letPar : ℕ → ℕ → Name → Parenable → Parenable → Parenable → Parenable
+  letPar place inForce name type value body =
+      withInner 0
+      (G
+      (NG indent
+      (quoted "let"
+      ⊹ quoted " "
+      ⊹ G (nameDoc name ⊹ quoted " " ⊹ quoted ":" ⊹ line ⊹ G (under 1 type))
+      ⊹ quoted " "
+      ⊹ quoted ":="
+      ⊹ line
+      ⊹ G (under 0 value)
+      ⊹ quoted ";")
+      ⊹ line
+      ⊹ names place inForce (under 0 body)))
+
+  -- an expression under the names in force; the bound is at least its depth
+  unfoldable pub exprTo : ℕ → List Name → Expr → Parenable
+  exprTo zero ns e = withInner 1024 (quoted "")
+  exprTo (suc k) ns (var i) = withInner 1024 (varDoc ns i i)
+  exprTo (suc k) ns (sort l) = withInner 1024 (sortDoc l)
+  exprTo (suc k) ns (const n ls) = withInner 1024 (quoted "@" ⊹ nameDoc n)
+  exprTo (suc k) ns (app f a) = appPar (exprTo k ns) (appHead f) (appArgs f (a ∷ []))
+  exprTo (suc k) ns (pi p n s t b) =
+      let bs : List Binder = binders (pi p n s t b) in chainPar (exprTo k (pushed bs ns)) bs (length ns) (chainBody b)
+  exprTo (suc k) ns (lam p n s t b) =
+      let bs : List Binder = binders (lam p n s t b) in chainPar (exprTo k (pushed bs ns)) bs (length ns) (chainBody b)
+  exprTo (suc k) ns (letᵉ p n t v b d) =
+      letPar p (suc (length ns)) n (exprTo k ns t) (exprTo k ns v) (exprTo k (n ∷ ns) b)
+  exprTo (suc k) ns (proj n i e) =
+      withInner 1024 (G (under 1024 (exprTo k ns e)) ⊹ quoted "." ⊹ number (i + 1))
+  exprTo (suc k) ns (nat s) = withInner 1024 (textᵐ s)
+  exprTo (suc k) ns (str s) = withInner 1024 (quoted "\"" ⊹ textᵐ s ⊹ quoted "\"")
+
+  unfoldable pub exprPar : List Name → Expr → Parenable
+  exprPar ns e = exprTo (depth e) ns e
+
+  -- "Every listing is one outer G."
+  unfoldable pub exprDoc : Expr → Marked
+  exprDoc e = G (under 0 (exprPar [] e))

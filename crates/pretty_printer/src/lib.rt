@@ -1,0 +1,1 @@
+// From trees to documents: names, levels, expressions, binders, declarations.

@@ -1,0 +1,32 @@
+-- Everything that a print computes with: a proof by computation says `unfolding computing`.
+use Rattle.utf8.specs.Utf8.{utf8From, utf8, pointsFrom, points}
+use Rattle.utf8.specs.Letterlike.{isStart, isRest, allRest, letterlike, sameBytes, plain}
+use Rattle.utf8.specs.Quoted.{encode, bytes}
+use Rattle.pool.specs.Tables.{stringWord, nameWord, levelWord, listWord, listEntry, exprWord, declarWord, stringAt}
+use Rattle.pool.specs.Kinds.{nameKind, levelKind, exprKind}
+use Rattle.pool.specs.Tree.{forget, forgetᵈ, nameDepth, levelDepth, depth, loose, lift, occurs, nameShape, levelShape, levelShapes, shape, sameShape}
+use Rattle.pool.specs.Unfold.{nameNode, nameTo, nameAt, levelNode, levelTo, levelAt, levelsFrom, listAt, exprNode, exprTo, exprAt, declarAt}
+use Rattle.pool.specs.Rules.{rising, stringOk, nameFieldsOk, nameOk, levelFieldsOk, levelOk, listOk, listEntryOk, allDigits, natural, unused, exprFieldsOk, depthBy, looseBy, exprOk, declarOk}
+use Rattle.pool.specs.Check.{number, place, firstBad, rowsVerdict, verdict}
+use Rattle.document.specs.Doc.{rowCount, flatSize, hasBreak, firstBreak, textBytes}
+use Rattle.document.specs.Rows.{node, docAt, textBefore, rowOk, Valid, scan, whole, fault}
+use Rattle.document.specs.Stored.{ownRow, stored, Fine}
+use Rattle.document.specs.Walk.{plain as plain′Walk, textEvents, events, step, steps, walk}
+use Rattle.layout.specs.Layout.{run, layout, pieces}
+use Rattle.layout.specs.Listing.{bytesOf, countOf, longestRow, testsIn}
+use Rattle.layout.specs.Paint.{paint}
+use Rattle.layout.specs.Call.{untouched, listed, outcome}
+use Rattle.pretty_printer.specs.Docs.{quoted, under, tileFrom, tile, digitsTo, digits, number as number′Docs}
+use Rattle.pretty_printer.specs.Runs.{leading, following, runsTo, runs}
+use Rattle.pretty_printer.specs.Names.{dotted, nameText, isAnonymous, hasOdd, nameDoc, isHygienic}
+use Rattle.pretty_printer.specs.Levels.{plus, maxPar, succsPar, sortDoc}
+use Rattle.pretty_printer.specs.Binders.{binders, chainBody, pushed, inForce, isArrow, isNamedPi, goesAlong, sameGroup, opening, closing, binderName, groupDoc, telescope, arrowPar, forallPar, funPar, runPar, runsPar, bindersPar}
+use Rattle.pretty_printer.specs.Exprs.{varDoc, appHead, appArgs, appPar, chainPar, letPar, exprTo as exprTo′Exprs, exprPar, exprDoc}
+use Rattle.pretty_printer.specs.Declars.{word, levelsDoc, info, canLeave, taken, defRest, mainDef, axiomRest, mainAxiom, declarDoc}
+use Rattle.lister.specs.Answers.{number as numberᴮ, place as placeᴮ, stopAnswer}
+use Rattle.lister.specs.Prints.{untouched as untouchedᴮ, cleared, filled, listed as listedᴮ, afterWalk, printDoc, checked, printExpr, printDeclar}
+use Rattle.lister.specs.Handing.{isAccepted, hasText, hasString, handOut}
+
+unfoldable pub computing : Unit {0}
+unfolding utf8From utf8 pointsFrom points isStart isRest allRest letterlike sameBytes plain encode bytes stringWord nameWord levelWord listWord listEntry exprWord declarWord stringAt nameKind levelKind exprKind forget forgetᵈ nameDepth levelDepth depth loose lift occurs nameShape levelShape levelShapes shape sameShape nameNode nameTo nameAt levelNode levelTo levelAt levelsFrom listAt exprNode exprTo exprAt declarAt rising stringOk nameFieldsOk nameOk levelFieldsOk levelOk listOk listEntryOk allDigits natural unused exprFieldsOk depthBy looseBy exprOk declarOk number place firstBad rowsVerdict verdict rowCount flatSize hasBreak firstBreak textBytes node docAt textBefore rowOk Valid scan whole fault ownRow stored Fine plain′Walk textEvents events step steps walk run layout pieces bytesOf countOf longestRow testsIn paint untouched listed outcome quoted under tileFrom tile digitsTo digits number′Docs leading following runsTo runs dotted nameText isAnonymous hasOdd nameDoc isHygienic plus maxPar succsPar sortDoc binders chainBody pushed inForce isArrow isNamedPi goesAlong sameGroup opening closing binderName groupDoc telescope arrowPar forallPar funPar runPar runsPar bindersPar varDoc appHead appArgs appPar chainPar letPar exprTo′Exprs exprPar exprDoc word levelsDoc info canLeave taken defRest mainDef axiomRest mainAxiom declarDoc numberᴮ placeᴮ stopAnswer untouchedᴮ cleared filled listedᴮ afterWalk printDoc checked printExpr printDeclar isAccepted hasText hasString handOut
+computing = tt

@@ -1,0 +1,1 @@
+// 01's starred specimens, proved of the definitions.

@@ -1,0 +1,77 @@
+"""Writes recorded prints as terms of antt, so that the definitions of specs/ compute them: `compute.py` writes
+../crates/computed/specs/Part*.antt from corpus/prints.bin. A check of that crate then shows that the definitions give the
+Rust's document rows, texts and listing, with 01's counts, in areas a little longer than needed."""
+import os
+import sys
+
+import record
+
+HERE = os.path.dirname(os.path.abspath(__file__))
+OUT = os.path.join(HERE, "..", "crates", "computed", "specs")
+WORDS, ROWS, PRINTS, PER_FILE = 420, 110, 200, 17
+
+
+def numbers(values):
+    return 'numbers "%s"' % " ".join(map(str, values))
+
+
+def quoted(text):
+    """A listing as a quoted text where it is UTF-8."""
+    escapes = {"\\": "\\\\", '"': '\\"', "\n": "\\n", "\t": "\\t", "\r": "\\r", "\0": "\\0"}
+    return 'bytes "%s"' % "".join(escapes.get(c, c) for c in bytes(text).decode())
+
+
+def small(r, p):
+    return p.rows is not None and len(r.words) <= WORDS and len(p.rows) <= ROWS
+
+
+def chosen(records):
+    """Spread over the corpus: the small prints, every so manieth."""
+    picked = [(r, p) for r in records for p in r.prints if small(r, p)]
+    return [picked[i * len(picked) // PRINTS] for i in range(min(PRINTS, len(picked)))]
+
+
+def term(n, r, p):
+    call = ("printExpr", "printDeclar")[p.mode]
+    c = p.counts
+    flat = [w for row in p.rows for w in row]
+    return """-- %s %d, indent %d, width %d
+pub print%d :
+    %s (%s) (%s) %d %d %d (lent %d %d %d)
+    ≡ done (Done %s) (%s) (%s) (%s)
+unfolding computing numbers lent done
+print%d = refl
+""" % (("expression", "declaration")[p.mode], p.root, p.indent, p.width, n, call, numbers(r.area), numbers(r.words), p.root,
+       p.indent, p.width, len(p.rows), len(p.text), len(p.listing), " ".join(map(str, c)), numbers(flat), numbers(p.text),
+       quoted(p.listing), n)
+
+
+HEADER = """-- Recorded prints %d to %d, computed by the definitions. Written by differential/compute.py.
+use mathlib.Core.List.{List, [], _∷_}
+use mathlib.Core.Path.{_≡_, refl}
+use Rattle.utf8.specs.Quoted.{bytes}
+use Rattle.lister.specs.declared.Answer.the-variants.{Done}
+use Rattle.lister.specs.Prints.{printExpr, printDeclar}
+use Rattle.specimens.specs.Computing.{computing}
+use Rattle.computed.specs.Areas.{numbers, lent, done}
+
+"""
+
+
+def main():
+    picked = chosen(record.read())
+    for old in os.listdir(OUT):
+        if old.startswith("Part"):
+            os.remove(os.path.join(OUT, old))
+    parts = [picked[i:i + PER_FILE] for i in range(0, len(picked), PER_FILE)]
+    for k, part in enumerate(parts):
+        terms = [term(k * PER_FILE + i, r, p) for i, (r, p) in enumerate(part)]
+        with open(os.path.join(OUT, "Part%d.antt" % k), "w") as f:
+            f.write(HEADER % (k * PER_FILE, k * PER_FILE + len(part) - 1) + "\n".join(terms))
+    with open(os.path.join(OUT, "Lib.antt"), "w") as f:
+        f.write("pub mod Areas\n" + "".join("pub mod Part%d\n" % k for k in range(len(parts))))
+    print("%d prints in %d files" % (len(picked), len(parts)))
+
+
+if __name__ == "__main__":
+    sys.exit(main())
