@@ -1,6 +1,6 @@
 """Compares the model with the published Rust, on random pools and on the recorded corpus. See README.md; `run` is the entry.
 
-    compare.py [--prints N] [--seed S] [--no-corpus] [--no-rust]
+    compare.py [--prints N] [--seed S] [--letters] [--no-corpus | --corpus-alone] [--no-rust]
 """
 import argparse
 import random
@@ -8,11 +8,14 @@ import sys
 import time
 from collections import Counter, namedtuple
 
+import directed
 import model
 import record
+import refusals
 import rust
 import specimens
 from generate import Case
+from pools import apply, of_declar, of_expr
 
 Expected = namedtuple("Expected", "request rows text laid")
 
@@ -56,6 +59,8 @@ def same_trees(case, tally):
         area, words, roots = case.pool(share)
         pool = model.Pool(area, words)
         documents.append(pool.fault == (0, 0) and [model.rows_of(model.document(pool, m, r, 2)) for m, r in roots])
+        terms = [model.expr_term(pool.exprs[r]) for m, r in roots if m == 0]
+        tally.judge(terms == [tree for m, tree in case.trees if m == 0], "seed", case.seed, "rows unfold to other trees")
     tally.judge(documents[0] and documents[0] == documents[1] == documents[2], "seed", case.seed, "shared and unshared differ")
 
 
@@ -93,6 +98,37 @@ def random_prints(program, seed, prints, tally):
     if program:
         judge_prints(program, batch, tally)
     tally.figures["random pools"], tally.figures["random prints"] = number, made
+
+
+def directed_prints(program, tally):
+    """The trees of directed.py at a width that takes most of them whole and at a narrow one."""
+    batch = []
+    for number, (mode, tree) in enumerate(directed.trees()):
+        area, words, root = (of_expr if mode == 0 else of_declar)(tree, number % 2 == 0)
+        pool, indent = model.Pool(area, words), (2, 4, 1)[number % 3]
+        tally.judge(pool.fault == (0, 0), "directed", number, "check gives", pool.fault)
+        rows, text = model.rows_of(model.document(pool, mode, root, indent))
+        for width in (100, 14):
+            batch.append(Expected(rust.Request(mode, root, indent, width, area, words), rows, text, model.layout(rows, text, width)))
+    tally.figures["directed prints"] = len(batch)
+    if program:
+        judge_prints(program, batch, tally)
+
+
+def letters(program, tally):
+    """Code points alone and after x, a hundred to a print: all below U+3400, each 97th, and those round the planes' edges."""
+    chosen = lambda c: c < 0x3400 or c % 97 == 0 or c > 0x10FF00 or 0xFE00 <= c <= 0x10010
+    points = [c for c in range(0x110000) if chosen(c) and not 0xD800 <= c < 0xE000]
+    batch = []
+    for at in range(0, len(points), 100):
+        area, words, root = of_expr(apply(*(("const", (t,), ()) for c in points[at:at + 100] for t in (chr(c), "x" + chr(c)))))
+        pool = model.Pool(area, words)
+        tally.judge(pool.fault == (0, 0), "letters from", points[at], "check gives", pool.fault)
+        rows, text = model.rows_of(model.document(pool, 0, root, 2))
+        batch.append(Expected(rust.Request(0, root, 2, 100, area, words), rows, text, model.layout(rows, text, 100)))
+    tally.figures["code points"] = len(points)
+    if program:
+        judge_prints(program, batch, tally)
 
 
 def random_document(r, budget):
@@ -161,11 +197,22 @@ def replay(program, tally):
     tally.figures["corpus prints"] = sum(len(r.prints) for r in records)
 
 
+def fixed_inputs(program, tally):
+    for good, line in specimens.judged(program):
+        tally.figures["specimens and differences"] += 1
+        tally.judge(good, line)
+    for title, answer, expected in refusals.cases():
+        tally.figures["refusals"] += 1
+        tally.judge(answer == expected, title, answer, "expected", expected)
+
+
 def options():
     o = argparse.ArgumentParser()
-    o.add_argument("--prints", type=int, default=6000, help="random prints (about; the last pool is printed whole)")
+    o.add_argument("--prints", type=int, default=4000, help="random prints (about; the last pool is printed whole)")
     o.add_argument("--seed", type=int, default=1)
+    o.add_argument("--letters", action="store_true", help="25,416 code points too")
     o.add_argument("--no-corpus", action="store_true")
+    o.add_argument("--corpus-alone", action="store_true")
     o.add_argument("--no-rust", action="store_true")
     return o.parse_args()
 
@@ -175,11 +222,13 @@ def main():
     program, why = (None, "asked not to") if o.no_rust else rust.build()
     if program is None:
         print("No comparison with the Rust: %s." % why)
-    for good, line in specimens.judged(program):
-        tally.judge(good, line)
-    tally.figures["specimens"] = tally.passed + tally.failed
-    random_prints(program, o.seed, o.prints, tally)
-    random_layouts(program, o.seed, min(1500, o.prints), tally)
+    if not o.corpus_alone:
+        fixed_inputs(program, tally)
+        directed_prints(program, tally)
+        random_prints(program, o.seed, o.prints, tally)
+        random_layouts(program, o.seed, min(1500, o.prints), tally)
+    if o.letters:
+        letters(program, tally)
     if not o.no_corpus:
         replay(program, tally)
     for name, figure in tally.figures.items():

@@ -6,12 +6,15 @@ import random
 
 from pools import Builder, DEFAULT, IMPLICIT, INSTANCE, STRICT
 
-PLAIN = ("a", "b", "c", "x", "y", "n", "h", "P", "Nat", "List", "inst", "α", "β", "γ", "x₈", "x₁", "ℕ", "ℝ", "a!", "b?", "c'", "_", "_x",
+PLAIN = ("a", "b", "c", "x", "y", "n", "h", "P", "Nat", "List", "inst", "α", "β", "γ", "x₈", "x₁", "ℕ", "ℝ", "a!", "b?", "c'", "_",
+         "_x",
          "ϊ", "ϡ", "ἀ", "ᾼ", "Γ", "Δ", "vᵢ", "aₙ", "_@", "mk", "toFun", "Ψ")
-ODD = ("b c", "λ", "Π", "Σ", "ω", "Ω", "x₉", "1a", "9", "a.b", "«", "»", "→", "_@x", "a_@", "\n", "tab\there", "é", "日本", "😀", "ϻ",
+ODD = ("b c", "λ", "Π", "Σ", "ω", "Ω", "x₉", "1a", "9", "a.b", "«", "»", "→", "_@x", "a_@", "\n", "tab\there", "é", "日本", "😀",
+       "ϻ",
        "\u1ffe", "\u214f", "xₜ", "xᵪ", "x-y", " ", "\x00", "(", "@f", "!a", "'")
 NUMBERS = (0, 1, 2, 7, 10, 231, 65535, 1 << 31, (1 << 32) - 1, 1 << 32, (1 << 64) - 1)
-LITERALS = ("", "a", "hello", "two\nlines", "\n", "\n\n", "quote\"inside", "tab\t", "→ α", "back\\slash", "日本語", "a b c d e f", "\x00", "end\n")
+LITERALS = ("", "a", "hello", "two\nlines", "\n", "\n\n", "quote\"inside", "tab\t", "→ α", "back\\slash", "日本語",
+            "a b c d e f", "\x00", "end\n")
 DIGITS = ("0", "1", "7", "10", "42", "1000000", "18446744073709551616", "9" * 40)
 
 
@@ -102,7 +105,8 @@ class Generator:
             return self.chain(scope, budget)
         if r < 0.91:
             third = budget // 3
-            return ("let", self.name(), self.expr(scope, third), self.expr(scope, third), self.expr(scope + 1, third), self.random.randrange(2))
+            name, type, value, body = self.name(), self.expr(scope, third), self.expr(scope, third), self.expr(scope + 1, third)
+            return ("let", name, type, value, body, self.random.randrange(2))
         if r < 0.97:
             return ("proj", self.name(), self.pick((0, 0, 1, 2, 9, 65534)), self.expr(scope, budget - 1))
         return self.leaf(scope)
@@ -209,10 +213,9 @@ class Generator:
     # trees at the limits
 
     def special(self):
-        c = ("const", ("c",), ())
-        n = self.random.randint(2, 60)
+        c = e = ("const", ("c",), ())
         which = self.random.randrange(9)
-        e = c
+        n = self.random.randint(2, 250 if which < 7 and self.chance(0.2) else 60)
         for i in range(n):
             if which == 0:
                 e = ("app", c, e)

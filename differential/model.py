@@ -4,7 +4,9 @@
     print_expression(pool, root, indent, width, areas)   print_declaration(...)      -> Answer
     layout_document(rows, row_count, text, text_count, width, listing)               -> Answer
     document(pool, mode, root, indent)      the events of a print's document, lazily, in document order
-    rows_of(events), layout(rows, text, width), tree_of(events)
+    rows_of(events) -> (rows, text)         layout(rows, text, width) -> Laid          tree_of(events): the document as nested tuples
+    pool.exprs[row], pool.declars[row]      trees of an accepted pool                  expr_term(e): the tree as pools.py takes it
+    hand_out_text, hand_out_string          document_fault: the place of 9, or None
 
 Areas are Areas(rows, text, listing): a list of words and two bytearrays, which a call changes as 01 says.
 """
@@ -207,6 +209,28 @@ def binding(table, kind):
 def digits(data):
     '''"one or more digits, no leading zero unless "0""'''
     return data.isdigit() and (data == b"0" or data[:1] != b"0")
+
+
+def name_term(name):
+    return tuple(c.decode() if isinstance(c, bytes) else c for c in name)
+
+
+def level_term(level):
+    """The level as pools.py takes it."""
+    kind = ("zero", "succ", "max", "imax", "param")[level.kind]
+    return (kind,) + tuple(level_term(f) if isinstance(f, Node) else name_term(f) for f in level.fields)
+
+
+def expr_term(e):
+    """The expression as pools.py takes it: what a row unfolds to, without its places."""
+    kind = ("var", "sort", "const", "app", "pi", "lam", "let", "proj", "nat", "str")[e.kind]
+    if e.kind == SORT:
+        return (kind, level_term(e.fields[0]))
+    if e.kind == CONST:
+        return (kind, name_term(e.fields[0]), tuple(level_term(l) for l in e.fields[1]))
+    if e.kind in (NAT, STR):
+        return (kind, e.fields[0].decode())
+    return (kind,) + tuple(expr_term(f) if isinstance(f, Node) else name_term(f) if isinstance(f, tuple) else f for f in e.fields)
 
 
 def occurs(e, index, memo=None):

@@ -5,17 +5,19 @@ import sys
 from collections import Counter, namedtuple
 from itertools import chain
 
+import directed
 import model
 import rust
 import specimens
 from generate import Case, name_shape
+from pools import Builder
 
 PATH = os.path.join(rust.HERE, "corpus", "prints.bin")
 MAGIC = struct.unpack("<I", b"TIL1")[0]
 HEAD = 16
 POOL, PRINT = 1, 2
 WORDS_LIMIT, BYTES_LIMIT, LISTING_LIMIT = 4000, 4000, 16384
-SMALL_POOL, SMALL_DOCUMENT = 700, 120  # words, rows
+SMALL_POOL, SMALL_DOCUMENT = 480, 90  # words, rows
 PoolRecord = namedtuple("PoolRecord", "area words prints")
 # rows and text are None where the document is not recorded
 PrintRecord = namedtuple("PrintRecord", "mode root indent width counts listing rows text")
@@ -124,12 +126,21 @@ def first_pools():
             yield d.pool[0], d.pool[1], [(d.mode, d.root, indent, width) for indent, width in ((2, 120), (0, 40), (1, 4000))]
 
 
+def directed_pools():
+    """The trees of directed.py, so many to a pool, shared and unshared by turns."""
+    trees = list(directed.trees())
+    for number, at in enumerate(range(0, len(trees), 12)):
+        b = Builder(number % 2 == 0)
+        roots = [(mode, b.expr(t) if mode == 0 else b.declar(*t)) for mode, t in trees[at:at + 12]]
+        yield b.pool() + ([(m, r, (2, 4, 0)[i % 3], (120, 10, 30, 0, 18)[(i + number) % 5]) for i, (m, r) in enumerate(roots)],)
+
+
 def random_pools(seed):
     """Without end, mostly small pools; of every tenth case kept a shared and an unshared pool follow, with the same prints."""
     number = kept = 0
     while True:
         case = Case(seed * 1000003 + number)
-        large = number % 60 == 0
+        large = number % 150 == 0
         found = wanted(case, (True, False, None)[number % 3], large)
         number += 1
         if found is None:
@@ -166,14 +177,14 @@ def crosscheck(r):
 def make(program, prints, documents, seed):
     """So many prints, and the documents of so many of the smaller ones."""
     records, kept, left = [], 0, documents
-    for number, (area, words, asks) in enumerate(chain(first_pools(), random_pools(seed))):
+    for number, (area, words, asks) in enumerate(chain(first_pools(), directed_pools(), random_pools(seed))):
         if kept >= prints:
             return records
         found = PoolRecord(area, words, list(asked(program, area, words, asks)))
         crosscheck(found)
         out = []
         for i, p in enumerate(found.prints):
-            keep = left > 0 and p.counts[0] <= SMALL_DOCUMENT and (number < 30 or (i + number) % 5 == 0)
+            keep = left > 0 and p.counts[0] <= SMALL_DOCUMENT and (number < 30 or (i + number) % 6 == 0)
             left -= keep
             out.append(p if keep else p._replace(rows=None, text=None))
         if out:
@@ -198,7 +209,7 @@ class Figures:
         else:
             d = pool.declars[p.root]
             reached.add("declaration: " + specimens.WORDS[d.kind])
-            reached.add("name: " + name_shape(d.name))
+            self.name(d.name, reached)
             for level in d.levels:
                 self.level(level, reached)
             for e in (d.type, d.value):
@@ -208,6 +219,11 @@ class Figures:
         self.prints["width " + next(name for name, top in WIDTHS if p.width <= top)] += 1
         self.prints["indent " + ("0" if p.indent == 0 else "1-8" if p.indent <= 8 else "9-64")] += 1
         self.prints["broken" if p.counts[3] > 1 else "one line"] += 1
+
+    def name(self, name, reached):
+        reached.add("name: " + name_shape(name))
+        if name != () and len(list(model.name_doc(name))) > 1:
+            reached.add("name: quoted, not anonymous")
 
     def level(self, level, reached):
         reached.add("level: " + ("zero", "successor", "max", "imax", "parameter")[level.kind])
@@ -229,7 +245,7 @@ class Figures:
             if e.kind in (model.PI, model.LAM):
                 reached.add("style: " + ("default", "implicit", "strict", "instance")[e.fields[1]])
             if e.kind in (model.CONST, model.PI, model.LAM, model.LET):
-                reached.add("name: " + name_shape(e.fields[0]))
+                self.name(e.fields[0], reached)
             stack += [f for f in e.fields if isinstance(f, model.Node)]
 
 
@@ -252,7 +268,7 @@ def main():
         program, why = rust.build()
         if program is None:
             sys.exit("No corpus can be made: %s." % why)
-        records = make(program, 3600, 360, 2026)
+        records = make(program, 4500, 450, 2026)
         os.makedirs(os.path.dirname(PATH), exist_ok=True)
         with open(PATH, "wb") as f:
             f.write(file_bytes(records))

@@ -1,9 +1,11 @@
 """The specimens of document 01, and the smallest inputs where 01 and the published Rust part; run through model and Rust.
 
     specimens.py            prints each specimen and each difference
+    specimens.py --smallest counts the differences among all small chains
 """
 import sys
-from collections import namedtuple
+from collections import Counter, namedtuple
+from itertools import product
 
 import model
 import rust
@@ -136,7 +138,8 @@ def outside_runs():
         difference("lambda, forall, lambda, forall", binders("lflf", const("P")),
                    "fun (a : @A) => forall (b : @B), fun (c : @C) => forall (d : @D), @P b d",
                    "fun (a : @A) (b : @B) (c : @C) => forall (d : @D), @P b d"),
-        difference("three binders A, B, A: not partitioned, yet equal", lam("a", const("A"), lam("b", const("B"), lam("c", const("A"), var(0)))),
+        difference("three binders A, B, A: not partitioned, yet equal",
+                   lam("a", const("A"), lam("b", const("B"), lam("c", const("A"), var(0)))),
                    "fun (a : @A) (b : @B) (c : @A) => c", "fun (a : @A) (b : @B) (c : @A) => c"),
     ]
 
@@ -144,7 +147,8 @@ def outside_runs():
 def styles():
     """`Default` in `is_arrow`: the same pi, its variable unused, in the four styles."""
     brackets = {DEFAULT: "@A → @B", IMPLICIT: "forall {x : @A}, @B", STRICT: "forall {{x : @A}}, @B", INSTANCE: "forall [x : @A], @B"}
-    return [difference("`Default` in `is_arrow`, style %d" % s, pi("x", const("A"), const("B"), s), text, text) for s, text in brackets.items()]
+    return [difference("`Default` in `is_arrow`, style %d" % s, pi("x", const("A"), const("B"), s), text, text)
+            for s, text in brackets.items()]
 
 
 def beyond_limits():
@@ -174,6 +178,31 @@ def shared_closed(n):
     for _ in range(n):
         e = ("app", e, e)
     return e
+
+
+def all_chains(length):
+    """(what, mode, tree) of every chain of this length: lambdas over three types; three roles as expression and as axiom."""
+    for types in product("ABC", repeat=length):
+        e = const("P")
+        for i in range(length - 1, -1, -1):
+            e = lam("abcd"[i], const(types[i]), e)
+        yield "types", EXPRESSION, e
+    for roles in product("fal", repeat=length):
+        yield "roles", EXPRESSION, binders(roles, const("P"))
+        yield "roles in an axiom", DECLARATION, axiom(binders(roles, const("P")))
+
+
+def smallest(program):
+    """How many chains of two, three and four binders differ: what DIFFERENCES-notes.md calls smallest."""
+    for length in (2, 3, 4):
+        chains = [(what, mode) + (of_expr if mode == EXPRESSION else of_declar)(tree) for what, mode, tree in all_chains(length)]
+        counted = Counter()
+        asked = [rust.Request(mode, root, 2, 120, area, words) for _, mode, area, words, root in chains]
+        for (what, mode, area, words, root), reply in zip(chains, rust.ask(program, asked)):
+            different = by_model(mode, (area, words), root, 2, 120).listing != reply.listing.decode()
+            counted[what] += different
+            counted[what + ", not partitioned"] += not reply.in_domain
+        print("%d binders, different: %s" % (length, dict(counted)))
 
 
 def by_model(mode, pool, root, indent, width):
@@ -243,6 +272,8 @@ if __name__ == "__main__":
     program, why = rust.build()
     if program is None:
         print("No comparison with the Rust: %s." % why)
+    elif sys.argv[1:] == ["--smallest"]:
+        sys.exit(smallest(program))
     show(program)
     results = list(judged(program))
     for good, what in results:

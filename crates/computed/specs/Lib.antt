@@ -9,3 +9,5 @@ pub mod Part6
 pub mod Part7
 pub mod Part8
 pub mod Part9
+pub mod Part10
+pub mod Part11

@@ -7,7 +7,7 @@ use mathlib.Core.Path.{_≡_, refl, sym, ap, ap₂, _∙_}
 use lib.ListN.{length}
 use Rattle.document.specs.Walk.{Marked}
 use Rattle.pool.specs.Tree.{Name, Expr, var, sort, const, app, pi, lam, letᵉ, proj, nat, str, lift, depth}
-use Rattle.pretty_printer.specs.Docs.{Parenable, G, NG, under, tile}
+use Rattle.names.specs.Docs.{Parenable, G, NG, under, tile}
 use Rattle.pretty_printer.specs.Runs.{runs, runsTo}
 use Rattle.pretty_printer.specs.Binders.{Binder, binders, chainBody, pushed, groupDoc, telescope, arrowPar, forallPar, funPar, runPar, runsPar, bindersPar, sameGroup, goesAlong, isArrow}
 use Rattle.pretty_printer.specs.Exprs.{appHead, appArgs, appPar, chainPar, letPar, exprTo, exprPar}
@@ -41,7 +41,7 @@ head-depth (proj n i e) = omega arith
 head-depth (nat s) = omega arith
 head-depth (str s) = omega arith
 
-abbrev Within : ℕ → Expr → Type 0
+abbrev pub Within : ℕ → Expr → Type 0
 Within k e = depth e ≤ k
 
 pub args-depth : (k : ℕ) (e : Expr) (others : List Expr) → depth e ≤ k → All (Within k) others → All (Within k) (appArgs e others)
@@ -70,7 +70,7 @@ body-depth (proj n i e) = omega arith
 body-depth (nat s) = omega arith
 body-depth (str s) = omega arith
 
-abbrev TypeWithin : ℕ → Binder → Type 0
+abbrev pub TypeWithin : ℕ → Binder → Type 0
 TypeWithin k b = depth (b .type) ≤ k
 
 pub types-depth : (k : ℕ) (e : Expr) → depth e ≤ suc k → All (TypeWithin k) (binders e)
@@ -90,18 +90,18 @@ types-depth k (str s) h = tt
 
 -- ---- printers of parts that agree on the parts agree on the whole
 
-map-agrees : {A B : Type 0} (f g : A → B) (xs : List A) → All (λ x. f x ≡ g x) xs → map f xs ≡ map g xs
+pub map-agrees : {A B : Type 0} (f g : A → B) (xs : List A) → All (λ x. f x ≡ g x) xs → map f xs ≡ map g xs
 unfolding All
 map-agrees f g [] h = refl
 map-agrees f g (x ∷ xs) h = ap₂ _∷_ (h .0) (map-agrees f g xs (h .1))
 
-all-map : {A : Type 0} (P Q : A → Type 0) → ((x : A) → P x → Q x) → (xs : List A) → All P xs → All Q xs
+pub all-map : {A : Type 0} (P Q : A → Type 0) → ((x : A) → P x → Q x) → (xs : List A) → All P xs → All Q xs
 unfolding All
 all-map P Q f [] h = tt
 all-map P Q f (x ∷ xs) h = (f x (h .0), all-map P Q f xs (h .1))
 
 module _ (indent : ℕ) (pp qq : Expr → Parenable) where
-  abbrev Agree : Binder → Type 0
+  abbrev pub Agree : Binder → Type 0
   Agree b = pp (b .type) ≡ qq (b .type)
 
   group-agrees : (bs : List Binder) → All Agree bs → groupDoc indent pp bs ≡ groupDoc indent qq bs
@@ -109,7 +109,7 @@ module _ (indent : ℕ) (pp qq : Expr → Parenable) where
   group-agrees [] h = refl
   group-agrees (b ∷ bs) h = rw (h .0)
 
-  telescope-agrees : (bs : List Binder) → All Agree bs → telescope indent pp bs ≡ telescope indent qq bs
+  pub telescope-agrees : (bs : List Binder) → All Agree bs → telescope indent pp bs ≡ telescope indent qq bs
   unfolding telescope runs
   telescope-agrees bs h =
       ap tile
@@ -127,15 +127,15 @@ module _ (indent : ℕ) (pp qq : Expr → Parenable) where
   runs-agree [] x y h e = e
   runs-agree (r ∷ rs) x y h e = run-agrees r _ _ (h .0) (runs-agree rs x y (h .1) e)
 
-  binders-agree : (bs : List Binder) (x y : Parenable) → All Agree bs → x ≡ y → bindersPar indent pp bs x ≡ bindersPar indent qq bs y
+  pub binders-agree : (bs : List Binder) (x y : Parenable) → All Agree bs → x ≡ y → bindersPar indent pp bs x ≡ bindersPar indent qq bs y
   unfolding bindersPar runs
   binders-agree bs x y h e = runs-agree (runs goesAlong bs) x y (all-runs Agree (length bs) goesAlong bs h) e
 
-  chain-agrees : (bs : List Binder) (outside : ℕ) (body : Expr) → All Agree bs → pp body ≡ qq body → chainPar indent pp bs outside body ≡ chainPar indent qq bs outside body
+  pub chain-agrees : (bs : List Binder) (outside : ℕ) (body : Expr) → All Agree bs → pp body ≡ qq body → chainPar indent pp bs outside body ≡ chainPar indent qq bs outside body
   unfolding chainPar
   chain-agrees bs outside body h e = rw (binders-agree bs (pp body) (qq body) h e)
 
-  app-agrees : (head : Expr) (args : List Expr) → pp head ≡ qq head → All (λ a. pp a ≡ qq a) args → appPar indent pp head args ≡ appPar indent qq head args
+  pub app-agrees : (head : Expr) (args : List Expr) → pp head ≡ qq head → All (λ a. pp a ≡ qq a) args → appPar indent pp head args ≡ appPar indent qq head args
   unfolding appPar
   app-agrees head args e h =
       rw (e, map-agrees (λ a. G (under 1024 (pp a))) (λ a. G (under 1024 (qq a))) args (all-map (λ a. pp a ≡ qq a) (λ a. G (under 1024 (pp a)) ≡ G (under 1024 (qq a))) (λ a w. ap (λ p. G (under 1024 p)) w) args h))
@@ -156,12 +156,12 @@ depth-positive (nat s) = omega arith
 depth-positive (str s) = omega arith
 
 -- one step of the bound: `below` says it of the parts
-all-two : {A : Type 0} (P Q R : A → Type 0) → ((x : A) → P x → Q x → R x) → (xs : List A) → All P xs → All Q xs → All R xs
+pub all-two : {A : Type 0} (P Q R : A → Type 0) → ((x : A) → P x → Q x → R x) → (xs : List A) → All P xs → All Q xs → All R xs
 unfolding All
 all-two P Q R f [] p q = tt
 all-two P Q R f (x ∷ xs) p q = (f x (p .0) (q .0), all-two P Q R f xs (p .1) (q .1))
 
-all-one : {A : Type 0} (P : A → Type 0) (x : A) → P x → All P (x ∷ [])
+pub all-one : {A : Type 0} (P : A → Type 0) (x : A) → P x → All P (x ∷ [])
 unfolding All
 all-one P x h = (h, tt)
 

@@ -7,9 +7,9 @@ use lib.Dec.{eqb}
 use lib.ListN.{length}
 use Rattle.document.specs.Walk.{Marked, names}
 use Rattle.pool.specs.Tree.{Name, Level, Expr, var, sort, const, app, pi, lam, letᵉ, proj, nat, str, lift, occurs, same}
-use Rattle.pretty_printer.specs.Docs.{_⊹_, quoted, line, G, NG, Parenable, withInner, under, tile}
+use Rattle.names.specs.Docs.{_⊹_, quoted, line, G, NG, Parenable, withInner, under, tile}
 use Rattle.pretty_printer.specs.Runs.{runs, leading, following}
-use Rattle.pretty_printer.specs.Names.{nameDoc, isAnonymous, isHygienic}
+use Rattle.names.specs.Names.{nameDoc, isAnonymous, isHygienic}
 
 -- a pi or a lambda of a chain; `used`: its variable occurs in its body
 pub record Binder : Type 0 where

@@ -6,10 +6,10 @@ use lib.Dec.{eqb}
 use lib.ListN.{length, take, drop}
 use Rattle.document.specs.Walk.{Marked, nestᵐ}
 use Rattle.pool.specs.Tree.{Name, Level, Expr, var, sort, const, app, pi, lam, letᵉ, proj, nat, str, Declar, typed, valued, lift}
-use Rattle.pretty_printer.specs.Docs.{_⊹_, quoted, line, G, NG, Parenable, under, tile}
+use Rattle.names.specs.Docs.{_⊹_, quoted, line, G, NG, Parenable, under, tile}
 use Rattle.pretty_printer.specs.Runs.{leading, following}
-use Rattle.pretty_printer.specs.Names.{nameDoc, isAnonymous}
-use Rattle.pretty_printer.specs.Levels.{levelPar, succsPar}
+use Rattle.names.specs.Names.{nameDoc, isAnonymous}
+use Rattle.names.specs.Levels.{levelPar, succsPar}
 use Rattle.pretty_printer.specs.Binders.{Binder, binders, chainBody, pushed, inForce, isNamedPi, telescope, bindersPar}
 use Rattle.pretty_printer.specs.Exprs.{exprPar}
 

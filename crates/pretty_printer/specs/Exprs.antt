@@ -4,9 +4,9 @@ use mathlib.Core.List.{List, [], _∷_, map}
 use lib.ListN.{length}
 use Rattle.document.specs.Walk.{Marked, textᵐ, names}
 use Rattle.pool.specs.Tree.{Name, Level, Expr, var, sort, const, app, pi, lam, letᵉ, proj, nat, str, depth}
-use Rattle.pretty_printer.specs.Docs.{_⊹_, quoted, line, G, NG, Parenable, withInner, under, tile, number}
-use Rattle.pretty_printer.specs.Names.{nameDoc}
-use Rattle.pretty_printer.specs.Levels.{sortDoc}
+use Rattle.names.specs.Docs.{_⊹_, quoted, line, G, NG, Parenable, withInner, under, tile, number}
+use Rattle.names.specs.Names.{nameDoc}
+use Rattle.names.specs.Levels.{sortDoc}
 use Rattle.pretty_printer.specs.Binders.{Binder, binders, chainBody, pushed, inForce, bindersPar}
 
 -- "Variable: the name at its place, else its index in digits."; the names in force, innermost first

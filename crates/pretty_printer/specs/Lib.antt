@@ -1,7 +1,7 @@
-pub mod Docs
 pub mod Runs
-pub mod Names
-pub mod Levels
 pub mod Binders
 pub mod Exprs
 pub mod Declars
+pub mod Rename
+pub mod Scopes
+pub mod Steps

@@ -1,1 +1,2 @@
 // From trees to documents: names, levels, expressions, binders, declarations.
+pub mod stack;

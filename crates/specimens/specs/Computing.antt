@@ -16,10 +16,10 @@ use Rattle.layout.specs.Layout.{run, layout, pieces}
 use Rattle.layout.specs.Listing.{bytesOf, countOf, longestRow, testsIn}
 use Rattle.layout.specs.Paint.{paint}
 use Rattle.layout.specs.Call.{untouched, listed, outcome}
-use Rattle.pretty_printer.specs.Docs.{quoted, under, tileFrom, tile, digitsTo, digits, number as number′Docs}
+use Rattle.names.specs.Docs.{quoted, under, tileFrom, tile, digitsTo, digits, number as number′Docs}
 use Rattle.pretty_printer.specs.Runs.{leading, following, runsTo, runs}
-use Rattle.pretty_printer.specs.Names.{dotted, nameText, isAnonymous, hasOdd, nameDoc, isHygienic}
-use Rattle.pretty_printer.specs.Levels.{plus, maxPar, succsPar, sortDoc}
+use Rattle.names.specs.Names.{dotted, nameText, isAnonymous, hasOdd, nameDoc, isHygienic}
+use Rattle.names.specs.Levels.{plus, maxPar, succsPar, sortDoc}
 use Rattle.pretty_printer.specs.Binders.{binders, chainBody, pushed, inForce, isArrow, isNamedPi, goesAlong, sameGroup, opening, closing, binderName, groupDoc, telescope, arrowPar, forallPar, funPar, runPar, runsPar, bindersPar}
 use Rattle.pretty_printer.specs.Exprs.{varDoc, appHead, appArgs, appPar, chainPar, letPar, exprTo as exprTo′Exprs, exprPar, exprDoc}
 use Rattle.pretty_printer.specs.Declars.{word, levelsDoc, info, canLeave, taken, defRest, mainDef, axiomRest, mainAxiom, declarDoc}

@@ -10,7 +10,7 @@ use Rattle.document.specs.Walk.{Marked, plain}
 use Rattle.layout.specs.Layout.{pieces}
 use Rattle.layout.specs.Listing.{bytesOf, longestRow}
 use Rattle.pool.specs.Tree.{Name, anonymous, string, Level, succˡ, paramˡ, Expr, var, sort, const, app, pi, lam, Declar, valued}
-use Rattle.pretty_printer.specs.Names.{nameDoc}
+use Rattle.names.specs.Names.{nameDoc}
 use Rattle.pretty_printer.specs.Exprs.{exprDoc}
 use Rattle.pretty_printer.specs.Declars.{declarDoc}
 use Rattle.specimens.specs.Computing.{computing}

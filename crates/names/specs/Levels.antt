@@ -4,8 +4,8 @@ use Prim.Native.String.{String}
 use mathlib.Core.List.{List, [], _∷_, map}
 use Rattle.document.specs.Walk.{Marked, textᵐ}
 use Rattle.pool.specs.Tree.{Name, Level, zeroˡ, succˡ, maxˡ, imaxˡ, paramˡ}
-use Rattle.pretty_printer.specs.Docs.{_⊹_, quoted, line, Parenable, withInner, under, number}
-use Rattle.pretty_printer.specs.Names.{nameDoc}
+use Rattle.names.specs.Docs.{_⊹_, quoted, line, Parenable, withInner, under, number}
+use Rattle.names.specs.Names.{nameDoc}
 
 -- "of another, that one under 1, "+", n, inner 0"
 unfoldable pub plus : Parenable → ℕ → Parenable

@@ -1,0 +1,3 @@
+pub mod Docs
+pub mod Names
+pub mod Levels

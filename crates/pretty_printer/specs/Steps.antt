@@ -1,0 +1,88 @@
+-- What the printers of a chain and of an application put, in the code's own steps.
+use Prim.Native.Nat.{ℕ, zero, suc}
+use mathlib.Core.Bool.{Bool, true, false, _&&_, not, cond}
+use mathlib.Core.List.{List, [], _∷_}
+use lib.Dec.{eqb}
+use Rattle.document.specs.Walk.{Marked}
+use Rattle.pool.specs.Tree.{Name, anonymous, Level, Expr, var, sort, const, app, pi, lam, letᵉ, proj, nat, str, lift, occurs, same}
+use Rattle.names.specs.Docs.{_⊹_, line, G, Parenable, under}
+use Rattle.pretty_printer.specs.Binders.{Binder, isNamedPi, isLambda}
+
+-- an application's tile, from its head on
+module _ (pp : Expr → Parenable) where
+  unfoldable pub spineDoc : Expr → Marked
+  spineDoc (var i) = G (under 1023 (pp (var i)))
+  spineDoc (sort l) = G (under 1023 (pp (sort l)))
+  spineDoc (const n ls) = G (under 1023 (pp (const n ls)))
+  spineDoc (app f a) = spineDoc f ⊹ G (line ⊹ G (under 1024 (pp a)))
+  spineDoc (pi p n s t b) = G (under 1023 (pp (pi p n s t b)))
+  spineDoc (lam p n s t b) = G (under 1023 (pp (lam p n s t b)))
+  spineDoc (letᵉ p n t v b d) = G (under 1023 (pp (letᵉ p n t v b d)))
+  spineDoc (proj n i e) = G (under 1023 (pp (proj n i e)))
+  spineDoc (nat s) = G (under 1023 (pp (nat s)))
+  spineDoc (str s) = G (under 1023 (pp (str s)))
+
+-- a chain's first binder as its row has it, its type not lifted
+unfoldable pub firstBinder : Expr → Binder
+firstBinder (var i) = record { isPi = false; used = false; name = anonymous; style = 0; type = var i; place = 0 }
+firstBinder (sort l) = record { isPi = false; used = false; name = anonymous; style = 0; type = sort l; place = 0 }
+firstBinder (const n ls) = record { isPi = false; used = false; name = anonymous; style = 0; type = const n ls; place = 0 }
+firstBinder (app f a) = record { isPi = false; used = false; name = anonymous; style = 0; type = app f a; place = 0 }
+firstBinder (pi p n s t b) = record { isPi = true; used = occurs 0 b; name = n; style = s; type = t; place = p }
+firstBinder (lam p n s t b) = record { isPi = false; used = occurs 0 b; name = n; style = s; type = t; place = p }
+firstBinder (letᵉ p n t v b d) = record { isPi = false; used = false; name = anonymous; style = 0; type = t; place = 0 }
+firstBinder (proj n i e) = record { isPi = false; used = false; name = anonymous; style = 0; type = e; place = 0 }
+firstBinder (nat s) = record { isPi = false; used = false; name = anonymous; style = 0; type = nat s; place = 0 }
+firstBinder (str s) = record { isPi = false; used = false; name = anonymous; style = 0; type = str s; place = 0 }
+
+-- a run of other pis, or of lambdas
+unfoldable pub inRun : Bool → Binder → Bool
+inRun true b = isNamedPi b
+inRun false b = isLambda b
+
+-- how many binders of a run a chain starts with
+unfoldable pub runLength : Bool → Expr → ℕ
+runLength c (var i) = 0
+runLength c (sort l) = 0
+runLength c (const n ls) = 0
+runLength c (app f a) = 0
+runLength c (pi p n s t b) = cond (inRun c (firstBinder (pi p n s t b))) (suc (runLength c b)) 0
+runLength c (lam p n s t b) = cond (inRun c (firstBinder (lam p n s t b))) (suc (runLength c b)) 0
+runLength c (letᵉ p n t v b d) = 0
+runLength c (proj n i e) = 0
+runLength c (nat s) = 0
+runLength c (str s) = 0
+
+-- whether a binder j places after one of a style and a type, none of them lifted, belongs to that one's group
+unfoldable pub inGroup : Bool → ℕ → Expr → ℕ → Binder → Bool
+inGroup c style type j b = inRun c b && (not (eqb style 3) && (eqb style (b .style) && same (lift j 0 type) (b .type)))
+
+-- how many binders of that group a chain starts with
+unfoldable pub groupLength : Bool → ℕ → Expr → ℕ → Expr → ℕ
+groupLength c style type j (var i) = 0
+groupLength c style type j (sort l) = 0
+groupLength c style type j (const n ls) = 0
+groupLength c style type j (app f a) = 0
+groupLength c style type j (pi p n s t b) =
+    cond (inGroup c style type j (firstBinder (pi p n s t b))) (suc (groupLength c style type (suc j) b)) 0
+groupLength c style type j (lam p n s t b) =
+    cond (inGroup c style type j (firstBinder (lam p n s t b))) (suc (groupLength c style type (suc j) b)) 0
+groupLength c style type j (letᵉ p n t v b d) = 0
+groupLength c style type j (proj n i e) = 0
+groupLength c style type j (nat s) = 0
+groupLength c style type j (str s) = 0
+
+-- a chain without its first n binders
+unfoldable pub dropChain : ℕ → Expr → Expr
+dropChain n (var i) = var i
+dropChain n (sort l) = sort l
+dropChain n (const m ls) = const m ls
+dropChain n (app f a) = app f a
+dropChain zero (pi p m s t b) = pi p m s t b
+dropChain (suc n) (pi p m s t b) = dropChain n b
+dropChain zero (lam p m s t b) = lam p m s t b
+dropChain (suc n) (lam p m s t b) = dropChain n b
+dropChain n (letᵉ p m t v b d) = letᵉ p m t v b d
+dropChain n (proj m i e) = proj m i e
+dropChain n (nat s) = nat s
+dropChain n (str s) = str s

@@ -1,0 +1,62 @@
+"""Deliberate faults in the model: each is put into a copy, and the corpus replayed against that copy has to find it (two minutes).
+
+    faults.py [part of a title]
+"""
+import os
+import shutil
+import subprocess
+import sys
+import tempfile
+
+HERE = os.path.dirname(os.path.abspath(__file__))
+EMIT_NEST = '        self.emit(b" " * amount)\n'
+# title, text of model.py, what stands there instead
+FAULTS = (
+    ("fit test with <", "self.after[row + 1] <= self.row_end", "self.after[row + 1] < self.row_end"),
+    ("fit test blind to what follows", " + self.after[row + 1] <= self.row_end", " <= self.row_end"),
+    ("fit tests inside flat groups", "elif i > flat_to and self.fits(r):", "elif self.fits(r) and i > flat_to:"),
+    ("parentheses at equal levels", "if outer > inner else d", "if outer >= inner else d"),
+    ("tail of an arrow under 25", "self.run(binders[1:], body, names, 24)", "self.run(binders[1:], body, names, 25)"),
+    ("types not lifted past their own binder", "b.fields[2], len(rows) - i)", "b.fields[2], len(rows) - i - 1)"),
+    ("value not lifted", "value = lift(self.pool, value, len(binders) - taken)", "pass"),
+    ("hygienic names are no arrows", " or b.name == () or is_hygienic(b.name))", " or b.name == ())"),
+    ("row's end after the indentation", "self.position + self.width\n        self.emit", "self.position + self.width + amount\n        self.emit"),
+    ("longest row without indentation", EMIT_NEST + "\n    def run", EMIT_NEST + "        self.row_start = self.position\n\n    def run"),
+    ("lines of broken places alone", "self.newlines + 1", "self.listing.count(b'\\n ') + 1"),
+    ("end of a letter range included", "(0x03B1, 0x03C9)", "(0x03B1, 0x03CA)"),
+    ("end of a digit range included", "(0x2080, 0x2089)", "(0x2080, 0x208A)"),
+    ("instance binders grouped", "if first.style == 3:", "if first.style == 4:"),
+    ("level lists not compared", "return tuple(level.tree for level in field)", "return ()"),
+    ("nondep not compared", "tuple(key_of(f) for f in n.fields)", "tuple(key_of(f) for f in n.fields[:4])"),
+    ("projection index not raised", "str(e.fields[1] + 1)", "str(e.fields[1])"),
+    ("anonymous binders taken", "binders[n].name != () and ", ""),
+    ("every anonymous binder prints _", "b.name == () and not b.occurs else", "b.name == () else"),
+)
+
+
+def found(title, old, new):
+    """Replays the corpus against a copy of this folder with the fault in it."""
+    with tempfile.TemporaryDirectory() as top:
+        copy = os.path.join(top, "differential")
+        shutil.copytree(HERE, copy)
+        path = os.path.join(copy, "model.py")
+        with open(path) as f:
+            text = f.read()
+        assert text.count(old) == 1, title
+        with open(path, "w") as f:
+            f.write(text.replace(old, new))
+        done = subprocess.run([os.path.join(copy, "run"), "--no-rust", "--corpus-alone"], capture_output=True, text=True)
+    last = (done.stdout.strip().splitlines() or ["no output"])[-1]
+    print("%s: %s" % (title, last), flush=True)
+    return done.returncode == 1 and last.endswith(" failed")
+
+
+def main():
+    chosen = [f for f in FAULTS if not sys.argv[1:] or sys.argv[1] in f[0]]
+    missed = [f[0] for f in chosen if not found(*f)]
+    print("%d passed, %d failed" % (len(chosen) - len(missed), len(missed)))
+    return 1 if missed else 0
+
+
+if __name__ == "__main__":
+    sys.exit(main())
