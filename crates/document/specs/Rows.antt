@@ -83,7 +83,7 @@ fieldsOk rows total before r (suc zero) = ltb (word rows (r - 1) 3) r && (eqb (w
 fieldsOk rows total before r (suc (suc zero)) = ltb (word rows r 1) 2 && eqb (word rows r 2) 0
 fieldsOk rows total before r (suc (suc (suc zero))) = ltb 0 r && (ltb (word rows r 1) 65 && eqb (word rows r 2) 0)
 fieldsOk rows total before r (suc (suc (suc (suc k)))) =
-    ltb 0 r && (eqb k 0 && (eqb (word rows r 1) 0 && eqb (word rows r 2) 0))
+    ltb 0 r && (eqb (suc (suc (suc (suc k)))) 4 && (eqb (word rows r 1) 0 && eqb (word rows r 2) 0))
 
 abbrev pub same : Measures → Measures → Bool
 same a b = eqb (a .count) (b .count) && (eqb (a .flat) (b .flat) && (eqb (a .first) (b .first) && eqb (a .has) (b .has)))

@@ -1,7 +1,236 @@
-// How much of a document is written, and the refusal that was met first (stop is its number, 0 for none).
+// The sink that printers emit a document into. It is sticky: once it has stopped, no function writes or changes anything, so that
+// printers need no branch after each call. Each function takes both areas, also where it uses one, so that all contracts have one shape.
+use crate::measures::Measures;
+use crate::measures::joined;
+use crate::measures::left_of;
+use crate::measures::measures_at;
+use crate::measures::wrapped;
+use crate::numbers::less;
+use crate::numbers::low;
+ghost use mathlib.Core.Path.{_≡_};
+ghost use lib.ListN.{length, replicate};
+ghost use Rattle.document.specs.Sink.{State, putRow, putByte, putBytes, endText, putText, putBreak, putJoin, putNest, putGroup, putWrapped, putNames};
+ghost use Rattle.document.specs.Sink.State.{state};
+
+// The rows and text bytes written so far; the number that stopped the walk, or 0, and its place.
 pub struct Sink {
     pub rows: usize,
     pub text: usize,
     pub stop: u32,
     pub place: usize,
+}
+
+pub fn start() -> Sink
+    ensures { λ v. ⌜ v ≡ Rattle.document.specs.Sink.start ⌝ }
+{
+    Sink {
+        rows: 0,
+        text: 0,
+        stop: 0,
+        place: 0,
+    }
+}
+
+impl Sink {
+    fn stopped_at(self, number: u32, place: usize) -> Sink
+        ensures { λ v. ⌜ v ≡ Rattle.document.specs.Sink.stoppedAt number place self ⌝ }
+    {
+        Sink {
+            rows: self.rows,
+            text: self.text,
+            stop: number,
+            place,
+        }
+    }
+}
+
+// Number 7, at the place of a chain or a let.
+pub fn refuse(rows: &mut [u32], text: &mut [u8], s: Sink, place: usize) -> Sink
+    ensures { λ v. ⌜ state (now (rows .exit)) (now (text .exit)) v ≡ Rattle.document.specs.Sink.refuse place (state (now (rows .entry)) (now (text .entry)) s) ⌝ }
+{
+    if s.stop != 0 {
+        return s;
+    }
+    s.stopped_at(7, place)
+}
+
+// The names of a chain or a let come into force, `count` of them in all.
+pub fn put_names(rows: &mut [u32], text: &mut [u8], s: Sink, place: usize, count: usize) -> Sink
+    ensures { λ v. ⌜ state (now (rows .exit)) (now (text .exit)) v ≡ putNames place count (state (now (rows .entry)) (now (text .entry)) s) ⌝ }
+{
+    if count <= 1024 {
+        return s;
+    }
+    refuse(rows, text, s, place)
+}
+
+// One row. Number 8 is tested before 20.
+fn put_row(
+    rows: &mut [u32],
+    text: &mut [u8],
+    s: Sink,
+    kind: u32,
+    a: u32,
+    b: u32,
+    m: Measures,
+) -> Sink
+    ensures { λ v. ⌜ state (now (rows .exit)) (now (text .exit)) v ≡ putRow kind a b m (state (now (rows .entry)) (now (text .entry)) s) ⌝ }
+{
+    if s.stop != 0 {
+        return s;
+    }
+    let written = s.rows;
+    if written >= 16384 {
+        return s.stopped_at(8, written);
+    }
+    let at = written * 7;
+    if rows.len() < at + 7 {
+        return s.stopped_at(20, written);
+    }
+    let count = low(m.count);
+    let flat = low(m.flat);
+    let first = low(m.first);
+    let has = low(m.has);
+    rows[at] = kind;
+    rows[at + 1] = a;
+    rows[at + 2] = b;
+    rows[at + 3] = count;
+    rows[at + 4] = flat;
+    rows[at + 5] = first;
+    rows[at + 6] = has;
+    Sink {
+        rows: written + 1,
+        text: s.text,
+        stop: s.stop,
+        place: s.place,
+    }
+}
+
+// One text byte. Number 8 is tested before 21.
+pub fn put_byte(rows: &mut [u32], text: &mut [u8], s: Sink, b: u8) -> Sink
+    ensures { λ v. ⌜ state (now (rows .exit)) (now (text .exit)) v ≡ putByte b (state (now (rows .entry)) (now (text .entry)) s) ⌝ }
+{
+    if s.stop != 0 {
+        return s;
+    }
+    let at = s.text;
+    if at >= 65536 {
+        return s.stopped_at(8, s.rows);
+    }
+    if at >= text.len() {
+        return s.stopped_at(21, s.rows);
+    }
+    text[at] = b;
+    Sink {
+        rows: s.rows,
+        text: at + 1,
+        stop: s.stop,
+        place: s.place,
+    }
+}
+
+// Text bytes without their row: a text may be written in pieces, and `end_text` writes its row.
+pub fn put_bytes(rows: &mut [u32], text: &mut [u8], s: Sink, bytes: &[u8]) -> Sink
+    ensures { λ v. ⌜ state (now (rows .exit)) (now (text .exit)) v ≡ putBytes (now (bytes .entry)) (state (now (rows .entry)) (now (text .entry)) s) ⌝ }
+{
+    let mut o = s;
+    let mut i = 0;
+    while i < bytes.len() {
+        o = put_byte(rows, text, o, bytes[i]);
+        i += 1;
+    }
+    o
+}
+
+// The row of the text whose bytes were written from `from` on.
+pub fn end_text(rows: &mut [u32], text: &mut [u8], s: Sink, from: usize) -> Sink
+    ensures { λ v. ⌜ state (now (rows .exit)) (now (text .exit)) v ≡ endText from (state (now (rows .entry)) (now (text .entry)) s) ⌝ }
+{
+    let size = less(s.text, from);
+    let m = Measures {
+        count: 1,
+        flat: size,
+        first: size,
+        has: 0,
+    };
+    put_row(rows, text, s, 0, low(from), low(size), m)
+}
+
+pub fn put_text(rows: &mut [u32], text: &mut [u8], s: Sink, bytes: &[u8]) -> Sink
+    ensures { λ v. ⌜ state (now (rows .exit)) (now (text .exit)) v ≡ putText (now (bytes .entry)) (state (now (rows .entry)) (now (text .entry)) s) ⌝ }
+{
+    let from = s.text;
+    let o = put_bytes(rows, text, s, bytes);
+    end_text(rows, text, o, from)
+}
+
+pub fn put_break(rows: &mut [u32], text: &mut [u8], s: Sink, blank: u32) -> Sink
+    ensures { λ v. ⌜ state (now (rows .exit)) (now (text .exit)) v ≡ putBreak blank (state (now (rows .entry)) (now (text .entry)) s) ⌝ }
+{
+    let m = Measures {
+        count: 1,
+        flat: blank as usize,
+        first: 0,
+        has: 1,
+    };
+    put_row(rows, text, s, 2, blank, 0, m)
+}
+
+// Joins the two subtrees written last.
+pub fn put_join(rows: &mut [u32], text: &mut [u8], s: Sink) -> Sink
+    ensures { λ v. ⌜ state (now (rows .exit)) (now (text .exit)) v ≡ putJoin (state (now (rows .entry)) (now (text .entry)) s) ⌝ }
+{
+    let written = s.rows;
+    let left = measures_at(rows, left_of(rows, written));
+    let right = measures_at(rows, less(written, 1));
+    let m = joined(left, right);
+    put_row(rows, text, s, 1, 0, 0, m)
+}
+
+// Puts a row of a kind over the subtree written last.
+fn put_wrapped(rows: &mut [u32], text: &mut [u8], s: Sink, kind: u32, a: u32) -> Sink
+    ensures { λ v. ⌜ state (now (rows .exit)) (now (text .exit)) v ≡ putWrapped kind a (state (now (rows .entry)) (now (text .entry)) s) ⌝ }
+{
+    let m = wrapped(measures_at(rows, less(s.rows, 1)));
+    put_row(rows, text, s, kind, a, 0, m)
+}
+
+pub fn put_nest(rows: &mut [u32], text: &mut [u8], s: Sink, amount: u32) -> Sink
+    ensures { λ v. ⌜ state (now (rows .exit)) (now (text .exit)) v ≡ putNest amount (state (now (rows .entry)) (now (text .entry)) s) ⌝ }
+{
+    put_wrapped(rows, text, s, 3, amount)
+}
+
+pub fn put_group(rows: &mut [u32], text: &mut [u8], s: Sink) -> Sink
+    ensures { λ v. ⌜ state (now (rows .exit)) (now (text .exit)) v ≡ putGroup (state (now (rows .entry)) (now (text .entry)) s) ⌝ }
+{
+    put_wrapped(rows, text, s, 4, 0)
+}
+
+fn clear_words(area: &mut [u32])
+    ensures { λ _. ⌜ now (area .exit) ≡ replicate (length (now (area .entry))) 0 ⌝ }
+{
+    let mut i = 0;
+    while i < area.len() {
+        area[i] = 0;
+        i += 1;
+    }
+}
+
+fn clear_bytes(area: &mut [u8])
+    ensures { λ _. ⌜ now (area .exit) ≡ replicate (length (now (area .entry))) 0 ⌝ }
+{
+    let mut i = 0;
+    while i < area.len() {
+        area[i] = 0;
+        i += 1;
+    }
+}
+
+// Both areas to zero: before a print, and after a refusal of one.
+pub fn clear(rows: &mut [u32], text: &mut [u8])
+    ensures { λ _. ⌜ (now (rows .exit) ≡ replicate (length (now (rows .entry))) 0) × (now (text .exit) ≡ replicate (length (now (text .entry))) 0) ⌝ }
+{
+    clear_words(rows);
+    clear_bytes(text);
 }

@@ -1,7 +1,87 @@
-// The row cursor.
+// The row cursor. It goes by value; its methods emit a piece into the listing area and hand back the cursor after it.
+// The position may run past the area, where nothing is written: the refusal (22) is one test at the end.
+use crate::area::copy_at;
+use crate::area::fill_at;
+ghost use mathlib.Core.Path.{_≡_};
+ghost use Prim.Native.Nat.{_+_, _<_, _≤_, max};
+ghost use lib.ListN.{length};
+ghost use Rattle.layout.specs.Layout.{textᵖ, blankᵖ, newlineᵖ, testᵖ, after};
+ghost use Rattle.layout.specs.Contract.{Steady, Emitted};
+
+// The bytes emitted so far, where the row ends, the longest row so far, and the fit tests so far.
 pub struct Cursor {
     pub position: usize,
     pub end: usize,
     pub longest: usize,
     pub tests: usize,
+}
+
+fn larger(a: usize, b: usize) -> usize
+    ensures { λ v. ⌜ v ≡ max a b ⌝ }
+{
+    if a < b { b } else { a }
+}
+
+impl Cursor {
+    // The cursor further on in the same row, which starts at end - width.
+    fn moved(self, width: usize, position: usize) -> Cursor
+        requires { ⌜ (self .end ≤ position + width) × (position + width < 18446744073709551616) ⌝ }
+        ensures { λ v. ⌜ v ≡ Rattle.layout.specs.Layout.moved width self position ⌝ }
+    {
+        Cursor {
+            position,
+            end: self.end,
+            longest: larger(self.longest, position + width - self.end),
+            tests: self.tests,
+        }
+    }
+
+    pub fn text(self, width: usize, listing: &mut [u8], bytes: &[u8]) -> Cursor
+        requires { ⌜ Steady width self × (self .position + length (now bytes) + width < 18446744073709551616) ⌝ }
+        ensures { λ v. ⌜ Emitted width (textᵖ (now (bytes .entry))) self v (now (listing .entry)) (now (listing .exit)) ⌝ }
+    {
+        let position = self.position;
+        copy_at(listing, position, bytes);
+        self.moved(width, position + bytes.len())
+    }
+
+    pub fn blank(self, width: usize, listing: &mut [u8], size: usize) -> Cursor
+        requires { ⌜ Steady width self × (self .position + size + width < 18446744073709551616) ⌝ }
+        ensures { λ v. ⌜ Emitted width (blankᵖ size) self v (now (listing .entry)) (now (listing .exit)) ⌝ }
+    {
+        let position = self.position;
+        fill_at(listing, position, size, 32);
+        self.moved(width, position + size)
+    }
+
+    // The row's end is set after the newline and before the nest's spaces.
+    pub fn newline(self, width: usize, listing: &mut [u8], nest: usize) -> Cursor
+        requires { ⌜ self .position + 1 + nest + width < 18446744073709551616 ⌝ }
+        ensures { λ v. ⌜ Emitted width (newlineᵖ 0 nest) self v (now (listing .entry)) (now (listing .exit)) ⌝ }
+    {
+        let position = self.position;
+        let next = position + 1;
+        fill_at(listing, position, 1, 10);
+        fill_at(listing, next, nest, 32);
+        let row = Cursor {
+            position: next,
+            end: next + width,
+            longest: self.longest,
+            tests: self.tests,
+        };
+        row.moved(width, next + nest)
+    }
+
+    // One fit test more.
+    pub fn tested(self) -> Cursor
+        requires { ⌜ self .tests + 1 < 18446744073709551616 ⌝ }
+        ensures { λ v. ⌜ v ≡ record { position = self .position; end = self .end; longest = self .longest; tests = self .tests + 1 } ⌝ }
+    {
+        Cursor {
+            position: self.position,
+            end: self.end,
+            longest: self.longest,
+            tests: self.tests + 1,
+        }
+    }
 }

@@ -1,6 +1,20 @@
 // The layout of a document at a width (numbers 9, 6 and 22).
-pub mod cursor;
+use cursor::Cursor;
+use document::check::counts_ok;
+use document::check::find_fault;
+use rows::lay_out;
+ghost use mathlib.Core.Path.{_≡_};
+ghost use Prim.Native.Nat.{_≤_};
+ghost use Rattle.document.specs.Rows.{Accepted};
+ghost use Rattle.layout.specs.Layout.{pieces};
+ghost use Rattle.layout.specs.Call.{docOf, listed, outcome};
 
+pub mod area;
+pub mod cursor;
+pub mod rows;
+
+// What a layout answers: what it reports, or the first faulty row of the document (9), a width over its limit (6), a listing longer than
+// its area (22).
 pub enum Laid {
     Done {
         rows: usize,
@@ -15,4 +29,62 @@ pub enum Laid {
     },
     Width,
     Listing,
+}
+
+// Lays out a document that was accepted before, without checking it again.
+pub fn layout_accepted(
+    rows: &[u32],
+    count: usize,
+    text: &[u8],
+    total: usize,
+    width: usize,
+    listing: &mut [u8],
+) -> Laid
+    requires { ⌜ Accepted (now rows) count (now text) total × (width ≤ 65535) ⌝ }
+    ensures { λ v. ⌜ record { answer = v; listing = now (listing .exit) } ≡ listed count total (pieces width (docOf (now (rows .entry)) count (now (text .entry)))) (now (listing .entry)) ⌝ }
+{
+    let start = Cursor {
+        position: 0,
+        end: width,
+        longest: 0,
+        tests: 0,
+    };
+    let last = lay_out(count - 1, rows, text, width, 0, false, 0, start, listing);
+    let length = last.position;
+    if listing.len() < length {
+        return Laid::Listing;
+    }
+    let lines = area::count_of(&listing[..length], 10) + 1;
+    Laid::Done {
+        rows: count,
+        text: total,
+        length,
+        lines,
+        longest: last.longest,
+        tests: last.tests,
+    }
+}
+
+// Lays out a given document.
+pub fn layout(
+    rows: &[u32],
+    count: usize,
+    text: &[u8],
+    total: usize,
+    width: usize,
+    listing: &mut [u8],
+) -> Laid
+    ensures { λ v. ⌜ record { answer = v; listing = now (listing .exit) } ≡ outcome (now (rows .entry)) count (now (text .entry)) total width (now (listing .entry)) ⌝ }
+{
+    if !counts_ok(rows.len(), count, text.len(), total) {
+        return Laid::Document { row: 0 };
+    }
+    let row = find_fault(rows, total, count);
+    if row < count {
+        return Laid::Document { row };
+    }
+    if 65535 < width {
+        return Laid::Width;
+    }
+    layout_accepted(rows, count, text, total, width, listing)
 }

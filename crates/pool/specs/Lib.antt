@@ -4,3 +4,7 @@ pub mod Tree
 pub mod Unfold
 pub mod Rules
 pub mod Check
+pub mod Areas
+pub mod Depths
+pub mod Stages
+pub mod Sound

@@ -1,3 +1,5 @@
 pub mod Utf8
 pub mod Letterlike
 pub mod Quoted
+pub mod Steps
+pub mod Ranges

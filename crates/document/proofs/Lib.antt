@@ -1,0 +1,10 @@
+pub mod Booleans
+pub mod Words
+pub mod Faults
+pub mod Areas
+pub mod Holds
+pub mod ReadBack
+pub mod StoredAgain
+pub mod Sizes
+pub mod Steps
+pub mod Emits

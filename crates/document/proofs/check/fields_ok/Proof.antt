@@ -1,0 +1,95 @@
+use mathlib.Core.Bool.{true}
+use Rattle.document.proofs.Faults.{text-fields, join-fields, break-fields, nest-fields, group-fields}
+use borrow.Author.Needs.{needs}
+use Rattle.document.proofs.check.fields_ok.Statement.{statement}
+use Rattle.document.proofs.check.fields_ok.Tie as tie
+
+word-at-requires : tie.Need-word-at-requires
+word-at-requires c κs = search needs
+
+word-at-requires-2 : tie.Need-word-at-requires-2
+word-at-requires-2 c κs = search needs
+
+word-at-requires-3 : tie.Need-word-at-requires-3
+word-at-requires-3 c κs = search needs
+
+add-both : tie.Need-add-both
+add-both c = search needs
+
+both-requires : tie.Need-both-requires
+both-requires c κs = search needs
+
+returns : tie.Need-returns
+returns c =
+    text-fields (c .before .before .before .before .before .before .args .rows .now) (c .before .before .before .before .before .before .args .total) (c .before .before .before .before .before .before .args .before) (c .before .before .before .before .before .before .args .r) _ _ _ (c .before .before .before .before .word-at .ensures .0) (c .before .before .before .word-at2 .ensures .0) (c .before .before .word-at3 .ensures .0) _ true (c .before .if1 .taken) (c .both .ensures)
+
+less-requires : tie.Need-less-requires
+less-requires c κs = search needs
+
+word-at-requires-4 : tie.Need-word-at-requires-4
+word-at-requires-4 c κs = search needs
+
+both-requires-2 : tie.Need-both-requires-2
+both-requires-2 c κs = search needs
+
+both-requires-3 : tie.Need-both-requires-3
+both-requires-3 c κs = search needs
+
+returns-2 : tie.Need-returns-2
+returns-2 c =
+    join-fields (c .before .before .before .before .before .before .before .before .before .before .args .rows .now) (c .before .before .before .before .before .before .before .before .before .before .args .total) (c .before .before .before .before .before .before .before .before .before .before .args .before) (c .before .before .before .before .before .before .before .before .before .before .args .r) _ _ _ (c .before .before .before .before .before .before .before .before .word-at .ensures .0) (c .before .before .before .before .before .before .before .word-at2 .ensures .0) (c .before .before .before .before .before .before .word-at3 .ensures .0) _ _ _ _ (c .before .before .before .before .if2 .taken) (c .before .before .before .less .ensures) (c .before .before .word-at4 .ensures .0) (c .before .both2 .ensures) (c .both3 .ensures)
+
+both-requires-4 : tie.Need-both-requires-4
+both-requires-4 c κs = search needs
+
+returns-3 : tie.Need-returns-3
+returns-3 c =
+    break-fields (c .before .before .before .before .before .before .before .before .args .rows .now) (c .before .before .before .before .before .before .before .before .args .total) (c .before .before .before .before .before .before .before .before .args .before) (c .before .before .before .before .before .before .before .before .args .r) _ _ _ (c .before .before .before .before .before .before .word-at .ensures .0) (c .before .before .before .before .before .word-at2 .ensures .0) (c .before .before .before .before .word-at3 .ensures .0) _ true (c .before .if3 .taken) (c .both4 .ensures)
+
+both-requires-5 : tie.Need-both-requires-5
+both-requires-5 c κs = search needs
+
+both-requires-6 : tie.Need-both-requires-6
+both-requires-6 c κs = search needs
+
+returns-4 : tie.Need-returns-4
+returns-4 c =
+    nest-fields (c .before .before .before .before .before .before .before .before .before .before .args .rows .now) (c .before .before .before .before .before .before .before .before .before .before .args .total) (c .before .before .before .before .before .before .before .before .before .before .args .before) (c .before .before .before .before .before .before .before .before .before .before .args .r) _ _ _ (c .before .before .before .before .before .before .before .before .word-at .ensures .0) (c .before .before .before .before .before .before .before .word-at2 .ensures .0) (c .before .before .before .before .before .before .word-at3 .ensures .0) _ _ (c .before .before .if4 .taken) (c .before .both5 .ensures) (c .both6 .ensures)
+
+both-requires-7 : tie.Need-both-requires-7
+both-requires-7 c κs = search needs
+
+both-requires-8 : tie.Need-both-requires-8
+both-requires-8 c κs = search needs
+
+both-requires-9 : tie.Need-both-requires-9
+both-requires-9 c κs = search needs
+
+returns-5 : tie.Need-returns-5
+returns-5 c =
+    group-fields (c .before .before .before .before .before .before .before .before .before .before .before .args .rows .now) (c .before .before .before .before .before .before .before .before .before .before .before .args .total) (c .before .before .before .before .before .before .before .before .before .before .before .args .before) (c .before .before .before .before .before .before .before .before .before .before .before .args .r) _ _ _ (c .before .before .before .before .before .before .before .before .before .word-at .ensures .0) (c .before .before .before .before .before .before .before .before .word-at2 .ensures .0) (c .before .before .before .before .before .before .before .word-at3 .ensures .0) _ _ _ (c .before .before .before .before .before .before .if1 .left) (c .before .before .before .before .before .if2 .left) (c .before .before .before .before .if3 .left) (c .before .before .before .if4 .left) (c .before .before .both7 .ensures) (c .before .both8 .ensures) (c .both9 .ensures)
+
+pub fields-ok-spec : {M : Type 1} → statement M
+fields-ok-spec =
+    tie.close
+    (tie.spec
+    word-at-requires
+    word-at-requires-2
+    word-at-requires-3
+    add-both
+    both-requires
+    returns
+    less-requires
+    word-at-requires-4
+    both-requires-2
+    both-requires-3
+    returns-2
+    both-requires-4
+    returns-3
+    both-requires-5
+    both-requires-6
+    returns-4
+    both-requires-7
+    both-requires-8
+    both-requires-9
+    returns-5)

@@ -1,0 +1,36 @@
+use mathlib.Core.Path.{_≡_, refl, sym, ap, ap₂, _∙_}
+use mathlib.Core.Bool.{_&&_}
+use Rattle.document.specs.Rows.{same}
+use borrow.Author.Needs.{needs}
+use Rattle.document.proofs.check.row_ok.Statement.{statement}
+use Rattle.document.proofs.check.row_ok.Tie as tie
+
+fields-ok-requires : tie.Need-fields-ok-requires
+fields-ok-requires c κs = search needs
+
+measures-at-requires : tie.Need-measures-at-requires
+measures-at-requires c κs = search needs
+
+derived-at-requires : tie.Need-derived-at-requires
+derived-at-requires c κs = search needs
+
+same-requires : tie.Need-same-requires
+same-requires c κs = search needs
+
+both-requires : tie.Need-both-requires
+both-requires c κs = search needs
+
+returns : tie.Need-returns
+returns c =
+    c .both .ensures ∙ ap₂ _&&_ (c .before .before .before .before .fields-ok .ensures) (c .before .same .ensures ∙ ap₂ same (c .before .before .before .measures-at .ensures .0) (c .before .before .derived-at .ensures))
+
+pub row-ok-spec : {M : Type 1} → statement M
+row-ok-spec =
+    tie.close
+    (tie.spec
+    fields-ok-requires
+    measures-at-requires
+    derived-at-requires
+    same-requires
+    both-requires
+    returns)

@@ -1,0 +1,18 @@
+use borrow.Author.Needs.{needs}
+use Rattle.document.proofs.check.same.Statement.{statement}
+use Rattle.document.proofs.check.same.Tie as tie
+
+both-requires : tie.Need-both-requires
+both-requires c κs = search needs
+
+both-requires-2 : tie.Need-both-requires-2
+both-requires-2 c κs = search needs
+
+both-requires-3 : tie.Need-both-requires-3
+both-requires-3 c κs = search needs
+
+returns : tie.Need-returns
+returns c = cc (c .before .before .both .ensures, c .before .both2 .ensures, c .both3 .ensures)
+
+pub same-spec : {M : Type 1} → statement M
+same-spec = tie.close (tie.spec both-requires both-requires-2 both-requires-3 returns)

@@ -1,0 +1,25 @@
+use borrow.Author.Needs.{needs}
+use Rattle.document.proofs.measures.joined.Statement.{statement}
+use Rattle.document.proofs.measures.joined.Tie as tie
+
+through-requires : tie.Need-through-requires
+through-requires c κs = search needs
+
+one-if-either-requires : tie.Need-one-if-either-requires
+one-if-either-requires c κs = search needs
+
+add-t5 : tie.Need-add-t5
+add-t5 c = search needs
+
+add-t6 : tie.Need-add-t6
+add-t6 c = search needs
+
+add-t7 : tie.Need-add-t7
+add-t7 c = search needs
+
+returns : tie.Need-returns
+returns c = cc (c .before .before .before .before .before .through .ensures .0, c .before .before .before .before .one-if-either .ensures)
+
+pub joined-spec : {M : Type 1} → statement M
+joined-spec =
+    tie.close (tie.spec through-requires one-if-either-requires add-t5 add-t6 add-t7 returns)

@@ -1,0 +1,55 @@
+use mathlib.Core.Path.{_≡_, refl, sym, ap, ap₂, _∙_}
+use Rattle.document.specs.declared.measures.Measures.{Measures}
+use Rattle.document.specs.Sink.{putRow}
+use Rattle.document.specs.Sink.State.{state}
+use Rattle.document.specs.Rows.{measuresAt, joined}
+use Rattle.document.specs.Sink.{putJoin}
+use borrow.Author.Needs.{needs}
+use Rattle.document.proofs.sink.put_join.Statement.{statement}
+use Rattle.document.proofs.sink.put_join.Tie as tie
+
+left-of-requires : tie.Need-left-of-requires
+left-of-requires c κs = search needs
+
+measures-at-requires : tie.Need-measures-at-requires
+measures-at-requires c κs = search needs
+
+less-requires : tie.Need-less-requires
+less-requires c κs = search needs
+
+measures-at-requires-2 : tie.Need-measures-at-requires-2
+measures-at-requires-2 c κs = search needs
+
+joined-requires : tie.Need-joined-requires
+joined-requires c κs = search needs
+
+put-row-requires : tie.Need-put-row-requires
+put-row-requires c κs = search needs
+
+same-length : tie.Need-same-length
+same-length c = search needs
+
+same-length-2 : tie.Need-same-length-2
+same-length-2 c = search needs
+
+returns : tie.Need-returns
+unfolding putJoin
+returns c =
+    c .before .before .before .before .put-row .ensures
+    ∙ ap (λ (m : Measures). putRow 1 0 0 m (state (c .before .before .before .before .before .before .before .before .before .before .before .before .before .before .before .before .args .rows .now) (c .before .before .before .before .before .before .before .before .before .before .before .before .before .before .before .before .args .text .now) (c .before .before .before .before .before .before .before .before .before .before .before .before .before .before .before .before .args .s)))
+    (c .before .before .before .before .before .before .before .joined .ensures
+    ∙ ap₂ joined (c .before .before .before .before .before .before .before .before .before .before .before .measures-at .ensures .0 ∙ ap (measuresAt (c .before .before .before .before .before .before .before .before .before .before .before .before .before .before .before .before .args .rows .now)) (c .before .before .before .before .before .before .before .before .before .before .before .before .left-of .ensures)) (c .before .before .before .before .before .before .before .before .measures-at2 .ensures .0 ∙ ap (measuresAt (c .before .before .before .before .before .before .before .before .before .before .before .before .before .before .before .before .args .rows .now)) (c .before .before .before .before .before .before .before .before .before .less .ensures)))
+
+pub put-join-spec : {M : Type 1} → statement M
+put-join-spec =
+    tie.close
+    (tie.spec
+    left-of-requires
+    measures-at-requires
+    less-requires
+    measures-at-requires-2
+    joined-requires
+    put-row-requires
+    same-length
+    same-length-2
+    returns)

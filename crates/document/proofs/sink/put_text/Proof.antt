@@ -1,0 +1,25 @@
+use mathlib.Core.Path.{_≡_, refl, sym, ap, ap₂, _∙_}
+use Rattle.document.specs.Sink.{endText, putText}
+use borrow.Author.Needs.{needs}
+use Rattle.document.proofs.sink.put_text.Statement.{statement}
+use Rattle.document.proofs.sink.put_text.Tie as tie
+
+put-bytes-requires : tie.Need-put-bytes-requires
+put-bytes-requires c κs = search needs
+
+end-text-requires : tie.Need-end-text-requires
+end-text-requires c κs = search needs
+
+same-length : tie.Need-same-length
+same-length c = search needs
+
+same-length-2 : tie.Need-same-length-2
+same-length-2 c = search needs
+
+returns : tie.Need-returns
+unfolding putText
+returns c = c .before .before .before .before .end-text .ensures ∙ ap (endText (c .before .before .before .before .before .before .before .before .before .before .before .before .before .before .before .before .before .args .s .text)) (c .before .before .before .before .before .before .before .before .before .before .before .put-bytes .ensures)
+
+pub put-text-spec : {M : Type 1} → statement M
+put-text-spec =
+    tie.close (tie.spec put-bytes-requires end-text-requires same-length same-length-2 returns)

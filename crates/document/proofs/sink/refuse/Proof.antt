@@ -1,0 +1,19 @@
+use borrow.Author.Tests.{ne-eqb, eq-eqb, lt-ltb, le-ltb, le-leb, lt-leb}
+use Rattle.document.specs.Sink.{refuse}
+use borrow.Author.Needs.{needs}
+use Rattle.document.proofs.sink.refuse.Statement.{statement}
+use Rattle.document.proofs.sink.refuse.Tie as tie
+
+returns : tie.Need-returns
+unfolding refuse
+returns c = simp (ne-eqb _ _ (c .if1 .taken))
+
+stopped-at-requires : tie.Need-stopped-at-requires
+stopped-at-requires c κs = search needs
+
+returns-2 : tie.Need-returns-2
+unfolding refuse
+returns-2 c = rw (eq-eqb _ _ (c .before .if1 .left), c .stopped-at .ensures)
+
+pub refuse-spec : {M : Type 1} → statement M
+refuse-spec = tie.close (tie.spec returns stopped-at-requires returns-2)

@@ -1,0 +1,7 @@
+pub mod Painting
+pub mod Pieces
+pub mod Cases
+pub mod Going
+pub mod Answers
+pub mod ThirdProperty
+mod Specimen

@@ -1,0 +1,39 @@
+use Rattle.layout.proofs.Cases.{place-flat, place-broken}
+use borrow.Author.Needs.{needs}
+use Rattle.layout.proofs.rows.lay_break.Statement.{statement}
+use Rattle.layout.proofs.rows.lay_break.Tie as tie
+
+word-at-requires : tie.Need-word-at-requires
+word-at-requires c κs = search needs
+
+blank-requires : tie.Need-blank-requires
+blank-requires c κs = search needs
+
+same-length : tie.Need-same-length
+same-length c = search needs
+
+returns : tie.Need-returns
+returns c =
+    place-flat _ _ _ _ _ _ _ _ _ (c .before .before .before .before .before .if1 .taken) (c .before .before .before .before .word-at .ensures .0) (c .before .before .blank .ensures)
+
+newline-requires : tie.Need-newline-requires
+newline-requires c κs = search needs
+
+same-length-2 : tie.Need-same-length-2
+same-length-2 c = search needs
+
+returns-2 : tie.Need-returns-2
+returns-2 c =
+    place-broken _ _ _ _ _ _ _ _ (c .before .before .before .before .if1 .left) (c .before .before .newline .ensures)
+
+pub lay-break-spec : {M : Type 1} → statement M
+lay-break-spec =
+    tie.close
+    (tie.spec
+    word-at-requires
+    blank-requires
+    same-length
+    returns
+    newline-requires
+    same-length-2
+    returns-2)

@@ -1,0 +1,66 @@
+// Bytes put into an area: as many as fit, and none past what is written.
+ghost use mathlib.Core.Path.{_≡_};
+ghost use mathlib.Core.Bool.{cond};
+ghost use Prim.Native.Nat.{_<_, _≤_};
+ghost use lib.Dec.{eqb};
+ghost use lib.ListN.{replicate};
+ghost use Rattle.layout.specs.Listing.{countOf};
+ghost use Rattle.layout.specs.Paint.{paint};
+
+// Copies as many bytes as fit to the front of the area.
+fn copy(area: &mut [u8], bytes: &[u8])
+    ensures { λ _. ⌜ now (area .exit) ≡ paint (now (area .entry)) 0 (now (bytes .entry)) ⌝ }
+{
+    let mut i = 0;
+    while i < area.len() && i < bytes.len() {
+        area[i] = bytes[i];
+        i += 1;
+    }
+}
+
+// Copies them into the part of the area that starts at a position; there may be no such part.
+pub fn copy_at(area: &mut [u8], position: usize, bytes: &[u8])
+    ensures { λ _. ⌜ now (area .exit) ≡ paint (now (area .entry)) position (now (bytes .entry)) ⌝ }
+{
+    if position < area.len() {
+        copy(&mut area[position..], bytes);
+    }
+}
+
+// Writes the byte b n times, or as often as it fits, to the front of the area.
+fn fill(area: &mut [u8], n: usize, b: u8)
+    ensures { λ _. ⌜ now (area .exit) ≡ paint (now (area .entry)) 0 (replicate n b) ⌝ }
+{
+    let mut i = 0;
+    while i < area.len() && i < n {
+        area[i] = b;
+        i += 1;
+    }
+}
+
+pub fn fill_at(area: &mut [u8], position: usize, n: usize, b: u8)
+    ensures { λ _. ⌜ now (area .exit) ≡ paint (now (area .entry)) position (replicate n b) ⌝ }
+{
+    if position < area.len() {
+        fill(&mut area[position..], n, b);
+    }
+}
+
+fn one_if_same(a: u8, b: u8) -> usize
+    ensures { λ v. ⌜ (v ≡ cond (eqb a b) 1 0) × (v ≤ 1) ⌝ }
+{
+    if a == b { 1 } else { 0 }
+}
+
+// How many bytes are b.
+pub fn count_of(bytes: &[u8], b: u8) -> usize
+    ensures { λ v. ⌜ (v ≡ countOf b (now (bytes .entry))) × (v < 9223372036854775808) ⌝ }
+{
+    let mut n: usize = 0;
+    let mut i: usize = 0;
+    while i < bytes.len() {
+        n = n + one_if_same(bytes[i], b);
+        i += 1;
+    }
+    n
+}

@@ -1,0 +1,5 @@
+pub mod Scan
+pub mod Decide
+pub mod Unfolds
+pub mod Verdicts
+pub mod TreeLaws

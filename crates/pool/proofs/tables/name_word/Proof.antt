@@ -1,0 +1,42 @@
+use Rattle.pool.specs.Tables.{nameWord, namesAt, levelsAt, listsAt, listWordsAt, exprsAt, declarsAt}
+use lib.ListN.{length, getD, List·getD-eq-default}
+use Prim.Native.Nat.{ℕ, _+_, _*_, _≤_}
+use mathlib.Core.Path.{_≡_, refl, sym, ap, _∙_}
+use native.Mathlib.Omega.{arith}
+use borrow.Author.Needs.{needs}
+use Rattle.pool.proofs.tables.name_word.Statement.{statement}
+use Rattle.pool.proofs.tables.name_word.Tie as tie
+use Rattle.pool.proofs.tables.name_word.Reads as reads
+use Rattle.pool.proofs.tables.name_word.Lts as lts
+use Rattle.pool.proofs.tables.word_at.Reads as word-at-reads
+
+-- src/tables.rt:91:9
+returns : tie.Need-returns
+unfolding nameWord
+returns c = let h : length (c .before .before .args .names .now) ≤ c .before .before .args .t .«names_at» + c .before .before .args .r * 4 + c .before .before .args .k = omega arith in
+    (sym (sym (ap (λ (x : ℕ). getD (c .before .before .args .names .now) (x + c .before .before .args .r * 4 + c .before .before .args .k) 0) (c .before .before .pre .0 .names-at)) ∙ List·getD-eq-default (c .before .before .args .names .now) 0 h), omega arith)
+
+-- src/tables.rt:93:33
+mul-word-at : tie.Need-mul-word-at
+mul-word-at c = search needs
+
+-- src/tables.rt:93:20
+add-word-at : tie.Need-add-word-at
+add-word-at c = search needs
+
+-- src/tables.rt:93:20
+add-word-at-2 : tie.Need-add-word-at-2
+add-word-at-2 c = search needs
+
+-- src/tables.rt:93:5
+word-at-requires : tie.Need-word-at-requires
+word-at-requires c κs = search needs
+
+-- src/tables.rt:86:1
+returns-2 : tie.Need-returns-2
+unfolding nameWord
+returns-2 c = (c .word-at .ensures .0 ∙ ap (λ (x : ℕ). getD (c .before .before .before .before .args .names .now) (x + c .before .before .before .before .args .r * 4 + c .before .before .before .before .args .k) 0) (c .before .before .before .before .pre .0 .names-at), c .word-at .ensures .1)
+
+pub name-word-spec : {M : Type 1} → statement M
+name-word-spec =
+    tie.close (tie.spec returns mul-word-at add-word-at add-word-at-2 word-at-requires returns-2)
