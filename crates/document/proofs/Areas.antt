@@ -2,10 +2,9 @@
 use Prim.Native.Nat.{ℕ, zero, suc, _+_, _-_, _*_, _%_, _^_, _<_, _≤_}
 use native.Mathlib.Numerals.{add-one, towards-suc}
 use native.Mathlib.Omega.{arith}
-use mathlib.Core.Bool.{Bool, true, false}
 use mathlib.Core.List.{List, [], _∷_, _++_, append-nil}
 use mathlib.Core.Path.{_≡_, refl, sym, ap, _∙_}
-use lib.ListN.{length, getD, take, drop, set, replicate, drop-of-length-le}
+use lib.ListN.{length, getD, drop, set, replicate, drop-of-length-le}
 use lib.Seq.{drop-cons, sets, sets-eq}
 use borrow.Author.Tests.{eq-eqb, lt-ltb, le-leb}
 use Rattle.document.specs.declared.measures.Measures.{Measures}
@@ -40,6 +39,12 @@ bytes-step st bs i h = rw (add-one, drop-cons bs i 0)
 pub bytes-end : (st : State) (bs : List ℕ) (i : ℕ) → length bs ≤ i → putBytes (drop i bs) st ≡ st
 unfolding putBytes
 bytes-end st bs i h = rw (drop-of-length-le bs h)
+
+-- a text may be written in pieces
+pub bytes-append : (front bs : List ℕ) (st : State) → putBytes (front ++ bs) st ≡ putBytes bs (putBytes front st)
+unfolding putBytes
+bytes-append [] bs st = refl
+bytes-append (a ∷ front) bs st = bytes-append front bs (putByte a st)
 
 pub text-row : (st : State) (from size a b : ℕ) → size ≡ sinkOf st .text - from → a ≡ from % 2 ^ 32 → b ≡ size % 2 ^ 32
     → putRow 0 a b (record { count = 1; flat = size; first = size; has = 0 }) st ≡ endText from st

@@ -1,5 +1,5 @@
 -- `emit` does what `walk` says.
-use Prim.Native.Nat.{ℕ, zero, suc, _+_, _-_, _*_, _%_, _^_, _≤_, _<_}
+use Prim.Native.Nat.{ℕ, zero, suc, _+_, _-_, _*_, _%_, _^_, _≤_}
 use native.Mathlib.Omega.{arith}
 use native.Mathlib.Nat.{mod-eq-of-lt}
 use mathlib.Core.List.{List, [], _∷_, _++_, append-assoc, append-nil}
@@ -10,9 +10,8 @@ use Rattle.document.specs.Doc.{Doc, text, join, break, nest, group, rowC
 use Rattle.document.specs.Rows.{word, leftOf, measuresAt, joined, wrapped}
 use Rattle.document.specs.Stored.{measures, rowOf, ownRow, stored, Fine}
 use Rattle.document.specs.Walk.{Marked, textᵐ, joinᵐ, breakᵐ, nestᵐ, groupᵐ, names, plain, Event, row, named, Progress, going, stopped, step, steps, textEvents, events, walk}
-use Rattle.document.specs.Sink.{State, rowsOf, sinkOf, rowWords, putRow, putBytes, endText, putText, putBreak, putJoin, putWrapped, putNames, emit, cleared}
+use Rattle.document.specs.Sink.{State, rowWords, putRow, putBytes, endText, putText, putBreak, putJoin, putWrapped, putNames, emit, cleared}
 use Rattle.document.specs.Sink.State.{state}
-use Rattle.document.proofs.Holds.{Holds}
 use Rattle.document.proofs.ReadBack.{stored-length, some-row, own, own-words, Words}
 use Rattle.document.proofs.Sizes.{words-fit}
 use Rattle.document.proofs.Steps.{Stopped, Stays, stays-emit, stays-join, stays-wrapped, stays-after, steps-append, sinkAt, At, areas, Grown, Agree, agree-words, then, row-agrees, names-agree, textWords, text-agrees}

@@ -1,7 +1,7 @@
 -- A list that holds another from an index on.
-use Prim.Native.Nat.{ℕ, _+_, _*_, _<_, _≤_}
+use Prim.Native.Nat.{ℕ, _+_, _<_, _≤_}
 use native.Mathlib.Omega.{arith}
-use mathlib.Core.List.{List, [], _∷_, _++_, append-assoc}
+use mathlib.Core.List.{List, [], _++_, append-assoc}
 use mathlib.Core.Path.{_≡_, refl, sym, ap, ap₂, _∙_, subst}
 use lib.ListN.{length, take, drop, getD, length-append, take-append-drop, List·getD-append}
 use lib.Seq.{getD-append-add, drop-at, take-at, length-take-le}

@@ -3,15 +3,15 @@ use Prim.Native.Nat.{ℕ, zero, suc, _+_, _-_, _*_, _≤_, _<_}
 use native.Mathlib.Omega.{arith}
 use native.Mathlib.Nat.{add-zero, zero-add}
 use native.Mathlib.Numerals.{add-one}
-use mathlib.Core.Bool.{Bool, true, false, _&&_, cond}
-use mathlib.Core.List.{List, [], _∷_, _++_}
+use mathlib.Core.Bool.{Bool, true, false, cond}
+use mathlib.Core.List.{List, _++_}
 use mathlib.Core.Logic.{_⊎_, inl, inr, ⊎-elim}
-use mathlib.Core.Path.{_≡_, refl, sym, ap, ap₂, _∙_, subst}
+use mathlib.Core.Path.{_≡_, refl, sym, ap, ap₂, _∙_}
 use lib.ListN.{length, take, drop, length-append}
-use lib.Dec.{leb, ltb, eqb}
+use lib.Dec.{ltb}
 use borrow.Author.Tests.{lt-ltb, le-ltb, le-leb, eq-eqb, ltb-true, ltb-false}
 use Rattle.document.specs.Doc.{Doc, text, join, break, nest, group, rowCount, flatSize, firstBreak, hasBreak, textBytes, through, either}
-use Rattle.document.specs.Rows.{word, leftOf, node, docAt, measuresAt, derived, fieldsOk, ownText, textBefore, ruleOk, rowOk, scan, whole, fault, countsOk, Accepted}
+use Rattle.document.specs.Rows.{word, leftOf, node, docAt, measuresAt, derived, ownText, textBefore, ruleOk, rowOk, scan, whole, fault, Accepted}
 use Rattle.document.specs.Stored.{rowOf, ownRow, stored, Fine}
 use Rattle.document.proofs.Booleans.{and-true}
 use Rattle.document.proofs.Holds.{Holds, holds-front, holds-to, holds-left, holds-right, holds-at, holds-part}

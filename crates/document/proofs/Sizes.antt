@@ -1,9 +1,8 @@
 -- The measures of a document within the limits fit their words.
-use Prim.Native.Nat.{ℕ, zero, suc, _+_, _*_, _%_, _^_, _≤_, _<_}
+use Prim.Native.Nat.{ℕ, zero, suc, _+_, _%_, _^_, _≤_, _<_}
 use native.Mathlib.Omega.{arith}
 use native.Mathlib.Nat.{mod-eq-of-lt}
-use mathlib.Core.List.{List, [], _∷_, _++_}
-use mathlib.Core.Path.{_≡_, refl, sym, ap, ap₂, _∙_}
+use mathlib.Core.Path.{_≡_}
 use lib.ListN.{length, length-append}
 use Rattle.document.specs.Doc.{Doc, text, join, break, nest, group, rowCount, flatSize, firstBreak, hasBreak, textBytes, through, either}
 use Rattle.document.specs.Stored.{measures, rowOf, Fine}

@@ -1,10 +1,10 @@
 -- The sink's functions and the steps of the walk agree, one event after the other.
-use Prim.Native.Nat.{ℕ, zero, suc, _+_, _-_, _*_, _%_, _^_, _≤_, _<_}
+use Prim.Native.Nat.{ℕ, _+_, _-_, _*_, _%_, _^_, _≤_, _<_}
 use native.Mathlib.Omega.{arith}
 use mathlib.Core.Bool.{Bool, true, false, cond}
 use mathlib.Core.List.{List, [], _∷_, _++_, append-assoc, append-nil}
 use mathlib.Core.Path.{_≡_, refl, sym, ap, ap₂, _∙_, subst}
-use lib.ListN.{length, take, drop, set, length-append, length-drop}
+use lib.ListN.{length, drop, set, length-append, length-drop}
 use lib.Seq.{take-at, drop-append-add, drop-drop, sets-eq}
 use lib.Dec.{ltb, leb, eqb}
 use borrow.Author.Tests.{ltb-true, leb-true}
@@ -21,24 +21,24 @@ pub record Stopped (number place : ℕ) (st : State) : Type 0 where
   pub stop : sinkOf st .stop ≡ number
   pub at : sinkOf st .place ≡ place
 
-row-stays : (kind a b : ℕ) (m : Measures) (st : State) → eqb (sinkOf st .stop) 0 ≡ false → putRow kind a b m st ≡ st
+pub row-stays : (kind a b : ℕ) (m : Measures) (st : State) → eqb (sinkOf st .stop) 0 ≡ false → putRow kind a b m st ≡ st
 unfolding putRow
 row-stays kind a b m (state rows text s) e = rw e
 
-byte-stays : (b : ℕ) (st : State) → eqb (sinkOf st .stop) 0 ≡ false → putByte b st ≡ st
+pub byte-stays : (b : ℕ) (st : State) → eqb (sinkOf st .stop) 0 ≡ false → putByte b st ≡ st
 unfolding putByte
 byte-stays b (state rows text s) e = rw e
 
-bytes-stay : (bs : List ℕ) (st : State) → eqb (sinkOf st .stop) 0 ≡ false → putBytes bs st ≡ st
+pub bytes-stay : (bs : List ℕ) (st : State) → eqb (sinkOf st .stop) 0 ≡ false → putBytes bs st ≡ st
 unfolding putBytes
 bytes-stay [] st e = refl
 bytes-stay (b ∷ bs) st e = ap (putBytes bs) (byte-stays b st e) ∙ bytes-stay bs st e
 
-end-stays : (from : ℕ) (st : State) → eqb (sinkOf st .stop) 0 ≡ false → endText from st ≡ st
+pub end-stays : (from : ℕ) (st : State) → eqb (sinkOf st .stop) 0 ≡ false → endText from st ≡ st
 unfolding endText
 end-stays from st e = row-stays _ _ _ _ st e
 
-names-stay : (place count : ℕ) (st : State) → eqb (sinkOf st .stop) 0 ≡ false → putNames place count st ≡ st
+pub names-stay : (place count : ℕ) (st : State) → eqb (sinkOf st .stop) 0 ≡ false → putNames place count st ≡ st
 unfolding putNames refuse
 names-stay place count (state rows text s) e = go (leb count 1024)
   where
@@ -46,7 +46,7 @@ names-stay place count (state rows text s) e = go (leb count 1024)
     go true = refl
     go false = rw e
 
-emit-stays : (m : Marked) (st : State) → eqb (sinkOf st .stop) 0 ≡ false → emit m st ≡ st
+pub emit-stays : (m : Marked) (st : State) → eqb (sinkOf st .stop) 0 ≡ false → emit m st ≡ st
 unfolding emit putText putBreak putJoin putWrapped
 emit-stays (textᵐ s) st e = ap (endText (sinkOf st .text)) (bytes-stay s st e) ∙ end-stays (sinkOf st .text) st e
 emit-stays (joinᵐ a b) st e = ap (λ (x : State). putJoin (emit b x)) (emit-stays a st e) ∙ ap putJoin (emit-stays b st e) ∙ row-stays _ _ _ _ st e
@@ -56,27 +56,24 @@ emit-stays (groupᵐ d) st e = ap putGroup (emit-stays d st e) ∙ row-stays _ _
 emit-stays (names place count d) st e = ap (emit d) (names-stay place count st e) ∙ emit-stays d st e
 
 -- such a function
-pub Stays : (State → State) → Type 0
+abbrev pub Stays : (State → State) → Type 0
 Stays f = (st : State) → eqb (sinkOf st .stop) 0 ≡ false → f st ≡ st
 
 pub stays-join : Stays putJoin
-unfolding Stays putJoin
+unfolding putJoin
 stays-join st e = row-stays _ _ _ _ st e
 
 pub stays-wrapped : (kind a : ℕ) → Stays (putWrapped kind a)
-unfolding Stays putWrapped
+unfolding putWrapped
 stays-wrapped kind a st e = row-stays _ _ _ _ st e
 
 pub stays-emit : (m : Marked) → Stays (emit m)
-unfolding Stays
 stays-emit m = emit-stays m
 
 pub stays-text : (from : ℕ) (s : List ℕ) → Stays (λ st. endText from (putBytes s st))
-unfolding Stays
 stays-text from s st e = ap (endText from) (bytes-stay s st e) ∙ end-stays from st e
 
 pub stays-after : (f g : State → State) → Stays f → Stays g → Stays (λ st. g (f st))
-unfolding Stays
 stays-after f g p q st e = ap g (p st e) ∙ q st e
 
 pub steps-append : (R T : ℕ) (p : Progress) (xs ys : List Event) → steps R T p (xs ++ ys) ≡ steps R T (steps R T p xs) ys
@@ -142,7 +139,6 @@ pub then : (R T : ℕ) (pre rest tpre trest ws bs vs cs : List ℕ) (p : Progres
     → Agree R T (pre ++ ws) (drop (length ws) rest) (tpre ++ bs) (drop (length bs) trest) vs cs (steps R T (going r t) es)
     (f (areas (pre ++ ws) (drop (length ws) rest) (tpre ++ bs) (drop (length bs) trest) r t)))
     → Agree R T pre rest tpre trest ws bs p st → Agree R T pre rest tpre trest (ws ++ vs) (bs ++ cs) (steps R T p es) (f st)
-unfolding Stays
 then R T pre rest tpre trest ws bs vs cs (going r t) es f st s k g =
     subst (λ (x : State). Agree R T pre rest tpre trest (ws ++ vs) (bs ++ cs) (steps R T (going r t) es) (f x)) (sym (g .is))
     (regroup R T pre rest tpre trest ws bs vs cs (steps R T (going r t) es) _ (k r t (g .at)))

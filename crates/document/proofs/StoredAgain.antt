@@ -2,20 +2,20 @@
 use Prim.Native.Nat.{ℕ, zero, suc, _+_, _-_, _*_, _≤_, _<_}
 use native.Mathlib.Omega.{arith}
 use native.Mathlib.Nat.{add-zero, zero-add}
-use mathlib.Core.Bool.{Bool, true, false, _&&_}
+use mathlib.Core.Bool.{true, _&&_}
 use mathlib.Core.List.{List, [], _∷_, _++_}
 use mathlib.Core.Path.{_≡_, refl, sym, ap, ap₂, _∙_, subst}
 use lib.ListN.{length, take, drop, getD, length-append, length-drop}
 use lib.Seq.{getD-take, getD-drop, ext-getD, length-take-le}
-use lib.Dec.{leb, ltb, eqb}
-use borrow.Author.Tests.{ltb-true, leb-true, eqb-true}
-use Rattle.document.specs.Doc.{Doc, text, join, break, nest, group, rowCount, flatSize, firstBreak, hasBreak, textBytes}
+use lib.Dec.{ltb, eqb}
+use borrow.Author.Tests.{eqb-true}
+use Rattle.document.specs.Doc.{Doc, join, rowCount, textBytes}
 use Rattle.document.specs.Rows.{word, leftOf, node, docAt, ownText, textBefore, Valid, Accepted}
 use Rattle.document.specs.Stored.{rowOf, ownRow, stored, Fine}
 use Rattle.document.proofs.Booleans.{and-left, and-right}
-use Rattle.document.proofs.Faults.{Sound, accepted-counts, accepted-sound}
+use Rattle.document.proofs.Faults.{accepted-counts, accepted-sound}
 use Rattle.document.proofs.Holds.{Holds, holds-to, holds-append, holds-take, holds-part}
-use Rattle.document.proofs.Words.{kept, text-within, text-before-within, text-long, join-right, join-count, blank-small, nest-amount, has-child, wrapped-count, Sized, sized}
+use Rattle.document.proofs.Words.{kept, text-within, text-before-within, text-long, join-right, blank-small, nest-amount, has-child, wrapped-count, Sized, sized}
 use Rattle.document.proofs.ReadBack.{stored-length}
 
 seven : (f : ℕ → ℕ) (k : ℕ) → k < 7 → getD (f 0 ∷ f 1 ∷ f 2 ∷ f 3 ∷ f 4 ∷ f 5 ∷ f 6 ∷ []) k 0 ≡ f k

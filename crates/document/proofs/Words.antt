@@ -1,17 +1,17 @@
 -- Laws of the words of rows that keep the row rules.
-use Prim.Native.Nat.{ℕ, zero, suc, _+_, _-_, _*_, _≤_, _<_}
+use Prim.Native.Nat.{ℕ, zero, suc, _+_, _-_, _≤_, _<_}
 use native.Mathlib.Omega.{arith}
-use mathlib.Core.Bool.{Bool, true, false, _&&_}
-use mathlib.Core.List.{List, []}
+use mathlib.Core.Bool.{true}
+use mathlib.Core.List.{List}
 use mathlib.Core.Logic.{_⊎_, ⊎-elim}
 use mathlib.Core.Path.{_≡_, refl, sym, ap, ap₂, _∙_, subst}
 use lib.ListN.{length, take, drop, length-drop}
 use lib.Seq.{length-take-le}
-use lib.Dec.{leb, ltb, eqb}
+use lib.Dec.{ltb, eqb}
 use borrow.Author.Tests.{ltb-true, leb-true, eqb-true, eq-eqb}
 use Rattle.document.specs.declared.measures.Measures.{Measures}
-use Rattle.document.specs.Doc.{Doc, text, join, break, nest, group, flatSize, hasBreak, firstBreak, rowCount, through, either}
-use Rattle.document.specs.Rows.{word, leftOf, node, docAt, measuresAt, derived, joined, wrapped, fieldsOk, same, ruleOk, ownText, textBefore, rowOk, Valid}
+use Rattle.document.specs.Doc.{Doc, flatSize, hasBreak, firstBreak, through, either}
+use Rattle.document.specs.Rows.{word, leftOf, node, docAt, measuresAt, derived, fieldsOk, same, ruleOk, ownText, textBefore, rowOk, Valid}
 use Rattle.document.proofs.Booleans.{and-left, and-right, and-true}
 
 -- ---- numbers

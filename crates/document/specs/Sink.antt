@@ -1,12 +1,12 @@
 -- What the sink's functions do to the row area, the text area and the sink.
 use Prim.Native.Nat.{ℕ, _+_, _-_, _*_, _%_, _^_}
-use mathlib.Core.Bool.{Bool, true, false, cond}
+use mathlib.Core.Bool.{cond}
 use mathlib.Core.List.{List, [], _∷_, _++_}
 use lib.ListN.{length, take, drop, set, replicate}
 use lib.Dec.{ltb, leb, eqb}
 use Rattle.document.specs.declared.measures.Measures.{Measures}
 use Rattle.document.specs.declared.sink.Sink.{Sink}
-use Rattle.document.specs.Rows.{word, leftOf, measuresAt, joined, wrapped}
+use Rattle.document.specs.Rows.{leftOf, measuresAt, joined, wrapped}
 use Rattle.document.specs.Walk.{Marked, textᵐ, joinᵐ, breakᵐ, nestᵐ, groupᵐ, names}
 
 -- the row area, the text area, the sink

@@ -1,5 +1,5 @@
 -- The walk of a document that is being printed (document 01, "From the lent areas"): its events in order, and the first refusal met.
-use Prim.Native.Nat.{ℕ, zero, suc, _+_, _*_}
+use Prim.Native.Nat.{ℕ, _+_, _*_}
 use mathlib.Core.Bool.{cond}
 use mathlib.Core.List.{List, [], _∷_, _++_}
 use lib.Dec.{ltb, leb}

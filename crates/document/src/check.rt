@@ -9,7 +9,7 @@ use crate::numbers::both;
 use crate::numbers::less;
 ghost use mathlib.Core.Path.{_≡_};
 ghost use Prim.Native.Nat.{_<_, _≤_};
-ghost use Rattle.document.specs.Rows.{word, fieldsOk, derived, ruleOk, ownText, textBefore, fault, countsOk};
+ghost use Rattle.document.specs.Rows.{word, fieldsOk, derived, ruleOk, ownText, fault, countsOk};
 
 // Whether the counts are within the slices and the limits, and there is a row.
 pub fn counts_ok(words: usize, count: usize, bytes: usize, total: usize) -> bool

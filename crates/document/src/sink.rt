@@ -9,7 +9,7 @@ use crate::numbers::less;
 use crate::numbers::low;
 ghost use mathlib.Core.Path.{_≡_};
 ghost use lib.ListN.{length, replicate};
-ghost use Rattle.document.specs.Sink.{State, putRow, putByte, putBytes, endText, putText, putBreak, putJoin, putNest, putGroup, putWrapped, putNames};
+ghost use Rattle.document.specs.Sink.{putRow, putByte, putBytes, endText, putText, putBreak, putJoin, putNest, putGroup, putWrapped, putNames};
 ghost use Rattle.document.specs.Sink.State.{state};
 
 // The rows and text bytes written so far; the number that stopped the walk, or 0, and its place.

@@ -1,24 +1,24 @@
 -- What `layout` and `layout_accepted` answer, from what `lay_out` gives.
-use Prim.Native.Nat.{ℕ, zero, suc, _+_, _-_, _*_, _≤_, _<_, max}
+use Prim.Native.Nat.{ℕ, _+_, _-_, _≤_, _<_, max}
 use native.Mathlib.Omega.{arith}
 use native.Mathlib.Nat.{add-zero, zero-add}
 use native.Mathlib.Numerals.{add-one}
 use mathlib.Core.Bool.{Bool, true, false, cond}
 use mathlib.Core.List.{List, [], _∷_, _++_}
-use mathlib.Core.Path.{_≡_, refl, sym, ap, ap₂, _∙_, subst}
+use mathlib.Core.Path.{_≡_, refl, sym, ap, ap₂, _∙_}
 use lib.ListN.{length, take, getD}
 use lib.Seq.{take-suc, take-all}
 use lib.Dec.{ltb, eqb}
 use borrow.Author.Tests.{lt-ltb, le-ltb}
-use Rattle.document.specs.Rows.{word, docAt, fault, countsOk, Accepted}
-use Rattle.document.proofs.Faults.{fault-bound, Counts, accepted-counts, Sound, accepted-sound}
+use Rattle.document.specs.Rows.{fault, countsOk, Accepted}
+use Rattle.document.proofs.Faults.{fault-bound, accepted-counts, accepted-sound}
 use Rattle.layout.specs.declared.cursor.Cursor.{Cursor}
 use Rattle.layout.specs.declared.Laid.{Laid}
 use Rattle.layout.specs.declared.Laid.the-variants.{Done, Document, Width, Listing}
 use Rattle.layout.specs.Layout.{Piece, textᵖ, blankᵖ, newlineᵖ, testᵖ, after, run, start, pieces}
 use Rattle.layout.specs.Listing.{bytesOf, countOf, lines, longestRow, testsIn}
 use Rattle.layout.specs.Paint.{paint}
-use Rattle.layout.specs.Call.{Outcome, untouched, listed, docOf, outcome}
+use Rattle.layout.specs.Call.{untouched, listed, docOf, outcome}
 use Rattle.layout.specs.Contract.{Emitteds, Room, LaidOut}
 use Rattle.layout.proofs.Pieces.{run-position}
 

@@ -1,17 +1,17 @@
 -- What `lay_out` asks of its calls and has from them, row kind by row kind.
-use Prim.Native.Nat.{ℕ, zero, suc, _+_, _-_, _*_, _≤_, _<_}
+use Prim.Native.Nat.{ℕ, zero, suc, _+_, _-_, _≤_, _<_}
 use native.Mathlib.Omega.{arith}
 use mathlib.Core.Bool.{Bool, true, false}
-use mathlib.Core.List.{List, [], _∷_, _++_}
+use mathlib.Core.List.{List, [], _∷_}
 use mathlib.Core.Path.{_≡_, refl, sym, ap, ap₂, _∙_, subst}
 use lib.ListN.{length, take, drop, length-take}
 use lib.Dec.{leb}
-use Rattle.document.specs.Doc.{Doc, text, join, break, nest, group, flatSize, hasBreak, firstBreak, through}
+use Rattle.document.specs.Doc.{Doc, group, hasBreak, firstBreak, through}
 use Rattle.document.specs.Rows.{word, leftOf, node, docAt, Valid}
 use Rattle.document.proofs.Words.{kept, text-within, join-right, join-count, blank-small, nest-amount, has-child, wrapped-count, sized}
 use Rattle.layout.specs.declared.cursor.Cursor.{Cursor}
 use Rattle.layout.specs.Layout.{Piece, textᵖ, blankᵖ, newlineᵖ, testᵖ, placed, after, run, fits, layout}
-use Rattle.layout.specs.Contract.{Steady, Emitted, Emitteds, Given, Room, LaidOut}
+use Rattle.layout.specs.Contract.{Steady, Emitted, Emitteds, Room, LaidOut}
 use Rattle.layout.proofs.Pieces.{emitted-one, emitted-append, emitted-test}
 
 -- what holds of the node of row r holds of its document

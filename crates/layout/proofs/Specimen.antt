@@ -1,6 +1,6 @@
 -- A specimen of document 01, `@Nat → @Nat`, computed: 17 rows, 12 text bytes, 13 listed; at width 12 two rows, the longest 8.
 use Prim.Native.Nat.{ℕ, _-_}
-use mathlib.Core.List.{List, [], _∷_, _++_}
+use mathlib.Core.List.{List, [], _∷_}
 use mathlib.Core.Path.{_≡_, refl}
 use Rattle.document.specs.Doc.{Doc, text, join, break, nest, group, rowCount, flatSize, firstBreak, hasBreak, textBytes}
 use Rattle.document.specs.Rows.{docAt, node, fault, scan, whole, rowOk, textBefore}

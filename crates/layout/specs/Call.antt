@@ -1,5 +1,5 @@
 -- What the call `layout` answers, and what it leaves in the listing area (document 01, "From the input", "From the lent areas").
-use Prim.Native.Nat.{ℕ, _+_, _-_}
+use Prim.Native.Nat.{ℕ, _-_}
 use mathlib.Core.Bool.{cond}
 use mathlib.Core.List.{List}
 use lib.ListN.{length}

@@ -5,7 +5,7 @@ use crate::area::fill_at;
 ghost use mathlib.Core.Path.{_≡_};
 ghost use Prim.Native.Nat.{_+_, _<_, _≤_, max};
 ghost use lib.ListN.{length};
-ghost use Rattle.layout.specs.Layout.{textᵖ, blankᵖ, newlineᵖ, testᵖ, after};
+ghost use Rattle.layout.specs.Layout.{textᵖ, blankᵖ, newlineᵖ};
 ghost use Rattle.layout.specs.Contract.{Steady, Emitted};
 
 // The bytes emitted so far, where the row ends, the longest row so far, and the fit tests so far.
@@ -41,8 +41,9 @@ impl Cursor {
         ensures { λ v. ⌜ Emitted width (textᵖ (now (bytes .entry))) self v (now (listing .entry)) (now (listing .exit)) ⌝ }
     {
         let position = self.position;
+        let last = position + bytes.len();
         copy_at(listing, position, bytes);
-        self.moved(width, position + bytes.len())
+        self.moved(width, last)
     }
 
     pub fn blank(self, width: usize, listing: &mut [u8], size: usize) -> Cursor
@@ -61,6 +62,7 @@ impl Cursor {
     {
         let position = self.position;
         let next = position + 1;
+        let last = next + nest;
         fill_at(listing, position, 1, 10);
         fill_at(listing, next, nest, 32);
         let row = Cursor {
@@ -69,7 +71,7 @@ impl Cursor {
             longest: self.longest,
             tests: self.tests,
         };
-        row.moved(width, next + nest)
+        row.moved(width, last)
     }
 
     // One fit test more.

@@ -4,7 +4,7 @@ use document::measures::left_of;
 use document::measures::through;
 use document::measures::word_at;
 ghost use mathlib.Core.Path.{_≡_};
-ghost use Prim.Native.Nat.{_+_, _-_, _*_, _<_, _≤_};
+ghost use Prim.Native.Nat.{_+_, _-_, _<_, _≤_};
 ghost use lib.ListN.{length, take, drop};
 ghost use Rattle.document.specs.Doc;
 ghost use Rattle.document.specs.Rows.{word};

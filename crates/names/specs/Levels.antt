@@ -4,7 +4,7 @@ use Prim.Native.String.{String}
 use mathlib.Core.List.{List, [], _∷_, map}
 use Rattle.document.specs.Walk.{Marked, textᵐ}
 use Rattle.pool.specs.Tree.{Name, Level, zeroˡ, succˡ, maxˡ, imaxˡ, paramˡ}
-use Rattle.names.specs.Docs.{_⊹_, quoted, line, Parenable, withInner, under, number}
+use Rattle.names.specs.Docs.{_⊹_, quoted, line, G, Parenable, withInner, under, tile, number}
 use Rattle.names.specs.Names.{nameDoc}
 
 -- "of another, that one under 1, "+", n, inner 0"
@@ -34,3 +34,8 @@ sortDoc (succˡ a) = quoted "Type" ⊹ quoted " " ⊹ under 1024 (levelPar a)
 sortDoc (maxˡ a b) = quoted "Sort" ⊹ quoted " " ⊹ under 1024 (levelPar (maxˡ a b))
 sortDoc (imaxˡ a b) = quoted "Sort" ⊹ quoted " " ⊹ under 1024 (levelPar (imaxˡ a b))
 sortDoc (paramˡ p) = quoted "Sort" ⊹ quoted " " ⊹ under 1024 (levelPar (paramˡ p))
+
+-- 01, Declarations: "("."+G("{"+tile of levels+"}")), or .. empty text for no levels"
+unfoldable pub levelsDoc : List Level → Marked
+levelsDoc [] = quoted ""
+levelsDoc (l ∷ ls) = quoted "." ⊹ G (quoted "{" ⊹ tile (map (λ x. under 0 (levelPar x)) (l ∷ ls)) ⊹ quoted "}")

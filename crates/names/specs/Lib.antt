@@ -1,3 +1,9 @@
 pub mod Docs
 pub mod Names
 pub mod Levels
+pub mod Words
+pub mod Parens
+pub mod Ready
+pub mod Components
+pub mod Counted
+pub mod Tiles

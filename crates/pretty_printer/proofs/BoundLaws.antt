@@ -6,25 +6,13 @@ use mathlib.Core.List.{List, [], _∷_, _++_, map}
 use mathlib.Core.Path.{_≡_, refl, sym, ap, ap₂, _∙_}
 use lib.ListN.{length}
 use Rattle.document.specs.Walk.{Marked}
+use Rattle.pool.proofs.TreeLaws.{lift-depth}
 use Rattle.pool.specs.Tree.{Name, Expr, var, sort, const, app, pi, lam, letᵉ, proj, nat, str, lift, depth}
 use Rattle.names.specs.Docs.{Parenable, G, NG, under, tile}
 use Rattle.pretty_printer.specs.Runs.{runs, runsTo}
 use Rattle.pretty_printer.specs.Binders.{Binder, binders, chainBody, pushed, groupDoc, telescope, arrowPar, forallPar, funPar, runPar, runsPar, bindersPar, sameGroup, goesAlong, isArrow}
 use Rattle.pretty_printer.specs.Exprs.{appHead, appArgs, appPar, chainPar, letPar, exprTo, exprPar}
 use Rattle.pretty_printer.proofs.RunLaws.{All, all-leading, all-following, all-runs}
-
-pub lift-depth : (n c : ℕ) (e : Expr) → depth (lift n c e) ≡ depth e
-unfolding lift depth
-lift-depth n c (var i) = refl
-lift-depth n c (sort l) = refl
-lift-depth n c (const a ls) = refl
-lift-depth n c (app f a) = ap₂ (λ x y. suc (max x y)) (lift-depth n c f) (lift-depth n c a)
-lift-depth n c (pi p a s t b) = ap₂ (λ x y. suc (max x y)) (lift-depth n c t) (lift-depth n (suc c) b)
-lift-depth n c (lam p a s t b) = ap₂ (λ x y. suc (max x y)) (lift-depth n c t) (lift-depth n (suc c) b)
-lift-depth n c (letᵉ p a t v b d) = rw (lift-depth n c t, lift-depth n c v, lift-depth n (suc c) b)
-lift-depth n c (proj a i e) = ap suc (lift-depth n c e)
-lift-depth n c (nat s) = refl
-lift-depth n c (str s) = refl
 
 -- ---- the parts of an application and of a chain are not deeper
 

@@ -11,7 +11,7 @@ use lib.Dec.{eqb, ltb, leb·suc-zero}
 use lib.ListN.{length, take, drop}
 use Rattle.pool.specs.Tables.{Pool}
 use Rattle.pool.specs.Tree.{Name, Expr, var, sort, const, app, pi, lam, letᵉ, proj, nat, str, lift, occurs, same, forget}
-use Rattle.names.specs.Docs.{Parenable}
+use Rattle.pool.proofs.TreeLaws.{same-forgets as tells, forgets-same as shows}
 use Rattle.pretty_printer.specs.declared.stack.Stack.{Stack}
 use Rattle.pretty_printer.specs.Runs.{leading, following, runs}
 use Rattle.pretty_printer.specs.Binders.{Binder, chainBody, isArrow, isNamedPi, isLambda, goesAlong, sameGroup}
@@ -150,39 +150,36 @@ module _ (σ : ℕ → ℕ) (rises : (i : ℕ) → σ i < σ (suc i)) where
   unfolding back
   goes-back i = let f : σ 0 + i ≤ σ i = rw (zero-add i) at (rises-by 0 i) in below-own i (σ i) ∙ omega arith
 
-  -- `tells` and `shows`: `same` says that trees are equal, places forgotten
-  module _ (tells : (a b : Expr) → same a b ≡ true → forget a ≡ forget b) (shows : (a b : Expr) → forget a ≡ forget b → same a b ≡ true) where
-    pub same-renamed : (a b : Expr) → same (rename σ a) (rename σ b) ≡ same a b
-    same-renamed a b = both-true (same (rename σ a) (rename σ b)) (same a b) there back-again
-      where
-        both-true : (x y : Bool) → (x ≡ true → y ≡ true) → (y ≡ true → x ≡ true) → x ≡ y
-        both-true true true f g = refl
-        both-true true false f g = sym (f refl)
-        both-true false true f g = g refl
-        both-true false false f g = refl
+  pub same-renamed : (a b : Expr) → same (rename σ a) (rename σ b) ≡ same a b
+  same-renamed a b = both-true (same (rename σ a) (rename σ b)) (same a b) there back-again
+    where
+      both-true : (x y : Bool) → (x ≡ true → y ≡ true) → (y ≡ true → x ≡ true) → x ≡ y
+      both-true true true f g = refl
+      both-true true false f g = sym (f refl)
+      both-true false true f g = g refl
+      both-true false false f g = refl
 
-        undone : (e : Expr) → rename back (rename σ e) ≡ e
-        undone e = rename-composes back σ (λ i. i) goes-back e ∙ rename-same (λ i. i) (λ i. refl) e
+      undone : (e : Expr) → rename back (rename σ e) ≡ e
+      undone e = rename-composes back σ (λ i. i) goes-back e ∙ rename-same (λ i. i) (λ i. refl) e
 
-        there : same (rename σ a) (rename σ b) ≡ true → same a b ≡ true
-        there e =
-            shows a b
-            (sym (undone (forget a))
-            ∙ ap (rename back) (sym (rename-forgets σ a) ∙ tells (rename σ a) (rename σ b) e ∙ rename-forgets σ b)
-            ∙ undone (forget b))
+      there : same (rename σ a) (rename σ b) ≡ true → same a b ≡ true
+      there e =
+          shows a b
+          (sym (undone (forget a))
+          ∙ ap (rename back) (sym (rename-forgets σ a) ∙ tells (rename σ a) (rename σ b) e ∙ rename-forgets σ b)
+          ∙ undone (forget b))
 
-        back-again : same a b ≡ true → same (rename σ a) (rename σ b) ≡ true
-        back-again e = shows (rename σ a) (rename σ b) (rename-forgets σ a ∙ ap (rename σ) (tells a b e) ∙ sym (rename-forgets σ b))
+      back-again : same a b ≡ true → same (rename σ a) (rename σ b) ≡ true
+      back-again e = shows (rename σ a) (rename σ b) (rename-forgets σ a ∙ ap (rename σ) (tells a b e) ∙ sym (rename-forgets σ b))
 
 -- the binders after a group's first, on the stack, that belong to the group
-module _ (p : Pool) (k : Stack) (linked : Linked k) (c i₀ u₀ : Bool) (n₀ : Name) (style : ℕ) (t : Expr) (q₀ h₀ : ℕ)
-    (tells : (a b : Expr) → same a b ≡ true → forget a ≡ forget b) (shows : (a b : Expr) → forget a ≡ forget b → same a b ≡ true) where
+module _ (p : Pool) (k : Stack) (linked : Linked k) (c i₀ u₀ : Bool) (n₀ : Name) (style : ℕ) (t : Expr) (q₀ h₀ : ℕ) where
   type-same : (h j : ℕ) (u : Expr) → h ≤ k .count → ((i : ℕ) → placeIn k h (i + j) ≡ placeIn k h₀ i) →
       same (rename (placeIn k h₀) t) (rename (placeIn k h) u) ≡ same (lift j 0 t) u
   type-same h j u b f =
       ap (λ (x : Expr). same x (rename (placeIn k h) u))
       (sym (ap (rename (placeIn k h)) (lift-renames j 0 t) ∙ rename-composes (placeIn k h) (lifted j 0) (placeIn k h₀) (λ i. rw (leb·suc-zero i) (f i)) t))
-      ∙ same-renamed (placeIn k h) (λ i. place-rises k linked h i b) tells shows (lift j 0 t) u
+      ∙ same-renamed (placeIn k h) (λ i. place-rises k linked h i b) (lift j 0 t) u
 
   -- the group's first binder, on the stack
   abbrev pub firstOn : Binder

@@ -5,3 +5,10 @@ pub mod RenameLaws
 pub mod ScopeLaws
 pub mod ExprLaws
 pub mod ChainLaws
+pub mod EmitLaws
+pub mod WordLaws
+pub mod ViewLaws
+pub mod LoopLaws
+pub mod BinderLaws
+pub mod RunningLaws
+pub mod FineLaws

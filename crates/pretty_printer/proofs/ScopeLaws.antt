@@ -2,11 +2,13 @@
 use Prim.Native.Nat.{ℕ, zero, suc, _+_, _-_, _<_, _≤_}
 use native.Mathlib.Omega.{arith}
 use native.Mathlib.Nat.{suc-add}
+use native.Mathlib.Decide.{decLe, decLt}
 use mathlib.Core.Bool.{Bool, true, false}
 use mathlib.Core.List.{List, [], _∷_}
 use mathlib.Core.Path.{_≡_, refl, sym, ap, ap₂, _∙_}
-use lib.ListN.{length}
-use Rattle.pool.specs.Tables.{Pool}
+use lib.ListN.{length, getD, set, length-set}
+use lib.Seq.{getD-set-same, getD-set-other}
+use Rattle.pool.specs.Tables.{Pool, N}
 use Rattle.pool.specs.Tree.{Name, Expr, var, sort, const, app, pi, lam, letᵉ, proj, nat, str, lift, occurs}
 use Rattle.pool.specs.Unfold.{nameAt}
 use Rattle.pretty_printer.specs.declared.stack.Entry.{Entry}
@@ -16,7 +18,7 @@ use Rattle.names.specs.Names.{nameDoc}
 use Rattle.pretty_printer.specs.Binders.{Binder, binders, chainBody, pushed}
 use Rattle.pretty_printer.specs.Exprs.{varDoc}
 use Rattle.pretty_printer.specs.Rename.{up, rename}
-use Rattle.pretty_printer.specs.Scopes.{entry, namesBelow, namesOf, outward, placeBy, placeIn, Linked, scoped, lastScope, Chained}
+use Rattle.pretty_printer.specs.Scopes.{entry, namesBelow, namesOf, outward, placeBy, placeIn, Linked, Held, Grown, push, scoped, lastScope, Chained}
 use Rattle.pretty_printer.proofs.RenameLaws.{rename-agrees, lift-adds, own-variable}
 
 -- how many names a chain puts on the stack
@@ -103,11 +105,6 @@ names-are-pushed p k h m (str s) c = ap (namesBelow p k) (sym c)
 
 -- ---- a stack that grew
 
--- the entries of k are still there
-pub record Grown (k l : Stack) : Type 0 where
-  pub more : k .count ≤ l .count
-  pub kept : (i : ℕ) → i < k .count → entry l i ≡ entry k i
-
 pub grown-place : (k l : Stack) → Linked k → Grown k l → (h i : ℕ) → h ≤ k .count → placeIn l h i ≡ placeIn k h i + (l .count - k .count)
 unfolding placeBy outward
 grown-place k l w g zero zero b = omega (arith, g .more)
@@ -193,3 +190,62 @@ place-rises k w (suc h) zero b =
     omega (arith, place-above k w (entry k h .link) 0 (omega arith))
 place-rises k w (suc h) (suc i) b =
     let l : entry k h .link ≤ h = w .below h b in place-rises k w (entry k h .link) i (omega arith)
+
+-- ---- one name more
+
+last-one : {i n : ℕ} → (i < n → ⊥) → i < n + 1 → i ≡ n
+last-one {i} {n} f b = by (decLe n i)
+  where
+    by : Dec (n ≤ i) → i ≡ n
+    by (yes l) = omega arith
+    by (no m) = absurd (f (omega arith))
+
+module _ (k : Stack) (name link : ℕ) (linked : Linked k) (room : k .count < 1024) where
+  pub push-last : entry (push k name link) (k .count) ≡ record { name = name; link = link }
+  push-last = getD-set-same (k .entries) (k .count) _ _ (omega (arith, linked .full))
+
+  push-other : (i : ℕ) → i < k .count → entry (push k name link) i ≡ entry k i
+  push-other i h = getD-set-other (k .entries) (k .count) i _ _ (omega arith)
+
+  pub push-grown : Grown k (push k name link)
+  push-grown = record { more = omega arith; kept = push-other }
+
+  pub push-linked : link ≤ k .count → Linked (push k name link)
+  push-linked h = record { full = length-set (k .entries) (k .count) _ ∙ linked .full; small = omega arith; below = λ i b. by i b (decLt i (k .count)) }
+    where
+      by : (i : ℕ) → i < k .count + 1 → Dec (i < k .count) → entry (push k name link) i .link ≤ i
+      by i b (yes l) = rw (push-other i l) (linked .below i l)
+      by i b (no n) = at-last i (last-one n b)
+        where
+          at-last : (j : ℕ) → j ≡ k .count → entry (push k name link) j .link ≤ j
+          at-last j e = rw (e, push-last) h
+
+  pub push-named : (p : Pool) → Held p k → name < N (p .names) → link ≤ k .count → Held p (push k name link)
+  push-named p held n h = record { linked = push-linked h; named = λ i b. by i b (decLt i (k .count)) }
+    where
+      by : (i : ℕ) → i < k .count + 1 → Dec (i < k .count) → entry (push k name link) i .name < N (p .names)
+      by i b (yes l) = rw (push-other i l) (held .named i l)
+      by i b (no m) = at-last i (last-one m b)
+        where
+          at-last : (j : ℕ) → j ≡ k .count → entry (push k name link) j .name < N (p .names)
+          at-last j e = rw (e, push-last) n
+
+pub grown-grown : {k l m : Stack} → Grown k l → Grown l m → Grown k m
+grown-grown {k} {l} {m} f g =
+    record { more = omega (arith, f .more, g .more); kept = λ i h. g .kept i (omega (arith, f .more)) ∙ f .kept i h }
+
+pub grown-self : (k : Stack) → Grown k k
+grown-self k = record { more = omega arith; kept = λ i h. refl }
+
+-- ---- a variable followed outward
+
+-- one step of the search
+pub place-next : (k : Stack) (h i : ℕ) → (h ≡ 0 → ⊥) → 0 < i → placeIn k h i ≡ placeIn k (entry k (h - 1) .link) (i - 1)
+place-next k zero i n b = absurd (n refl)
+place-next k (suc h) zero n b = absurd (omega arith)
+place-next k (suc h) (suc i) n b = place-out k h i ∙ ap₂ (λ (x y : ℕ). placeIn k (entry k x .link) y) (omega arith) (omega arith)
+
+pub link-within : (k : Stack) → Linked k → (h : ℕ) → (h ≡ 0 → ⊥) → h ≤ k .count → entry k (h - 1) .link ≤ k .count
+link-within k w zero n b = absurd (n refl)
+link-within k w (suc h) n b =
+    let e : suc h - 1 ≡ h = omega arith in rw e (omega (arith, w .below h b))

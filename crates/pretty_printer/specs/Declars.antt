@@ -9,7 +9,7 @@ use Rattle.pool.specs.Tree.{Name, Level, Expr, var, sort, const, app, pi, lam, 
 use Rattle.names.specs.Docs.{_⊹_, quoted, line, G, NG, Parenable, under, tile}
 use Rattle.pretty_printer.specs.Runs.{leading, following}
 use Rattle.names.specs.Names.{nameDoc, isAnonymous}
-use Rattle.names.specs.Levels.{levelPar, succsPar}
+use Rattle.names.specs.Levels.{levelsDoc}
 use Rattle.pretty_printer.specs.Binders.{Binder, binders, chainBody, pushed, inForce, isNamedPi, telescope, bindersPar}
 use Rattle.pretty_printer.specs.Exprs.{exprPar}
 
@@ -25,10 +25,6 @@ word (suc (suc (suc (suc (suc (suc zero)))))) = quoted "constructor"
 word (suc (suc (suc (suc (suc (suc (suc k))))))) = quoted "recursor"
 
 -- "Info: name+("."+G("{"+tile of levels+"}")), or name+empty text for no levels."
-unfoldable pub levelsDoc : List Level → Marked
-levelsDoc [] = quoted ""
-levelsDoc (l ∷ ls) = quoted "." ⊹ G (quoted "{" ⊹ tile (map (λ x. under 0 (levelPar x)) (l ∷ ls)) ⊹ quoted "}")
-
 unfoldable pub info : Name → List Level → Marked
 info n ls = nameDoc n ⊹ levelsDoc ls
 

@@ -5,3 +5,5 @@ pub mod Declars
 pub mod Rename
 pub mod Scopes
 pub mod Steps
+pub mod Puts
+pub mod Asked

@@ -2,8 +2,8 @@
 use Prim.Native.Nat.{ℕ, zero, suc, _+_, _-_, _<_, _≤_}
 use mathlib.Core.List.{List, [], _∷_}
 use mathlib.Core.Path.{_≡_}
-use lib.ListN.{length, getD}
-use Rattle.pool.specs.Tables.{Pool}
+use lib.ListN.{length, getD, set}
+use Rattle.pool.specs.Tables.{Pool, N}
 use Rattle.pool.specs.Tree.{Name, Expr, var, sort, const, app, pi, lam, letᵉ, proj, nat, str, occurs}
 use Rattle.pool.specs.Unfold.{nameAt}
 use Rattle.pretty_printer.specs.declared.stack.Entry.{Entry}
@@ -44,6 +44,27 @@ pub record Linked (k : Stack) : Type 0 where
   pub full : length (k .entries) ≡ 1024
   pub small : k .count ≤ 1024
   pub below : (i : ℕ) → i < k .count → entry k i .link ≤ i
+
+-- a stack whose links are sound and whose names are rows of the pool
+pub record Held (p : Pool) (k : Stack) : Type 0 where
+  pub linked : Linked k
+  pub named : (i : ℕ) → i < k .count → entry k i .name < N (p .names)
+
+-- one name more, in a scope
+abbrev pub push : Stack → ℕ → ℕ → Stack
+push k name link =
+    record { entries = set (k .entries) (k .count) (record { name = name; link = link }); count = k .count + 1 }
+
+-- the entries of k are still there
+pub record Grown (k l : Stack) : Type 0 where
+  pub more : k .count ≤ l .count
+  pub kept : (i : ℕ) → i < k .count → entry l i ≡ entry k i
+
+-- a variable's scope and index, followed outward: the place is the same, and the end of the names or of the index is reached
+pub record Reached (k : Stack) (h i scope left : ℕ) : Type 0 where
+  pub place : placeIn k h i ≡ placeIn k scope left
+  pub within : scope ≤ k .count
+  pub ended : (scope ≡ 0 → ⊥) → left ≡ 0
 
 -- The binders of a chain whose names are on the stack: the first one's entry is m, and its type is in the scope h.
 unfoldable pub scoped : Stack → ℕ → ℕ → Expr → List Binder

@@ -1,12 +1,12 @@
 -- What the printers of a chain and of an application put, in the code's own steps.
 use Prim.Native.Nat.{ℕ, zero, suc}
-use mathlib.Core.Bool.{Bool, true, false, _&&_, not, cond}
+use mathlib.Core.Bool.{Bool, true, false, _&&_, _||_, not, cond}
 use mathlib.Core.List.{List, [], _∷_}
 use lib.Dec.{eqb}
 use Rattle.document.specs.Walk.{Marked}
 use Rattle.pool.specs.Tree.{Name, anonymous, Level, Expr, var, sort, const, app, pi, lam, letᵉ, proj, nat, str, lift, occurs, same}
 use Rattle.names.specs.Docs.{_⊹_, line, G, Parenable, under}
-use Rattle.pretty_printer.specs.Binders.{Binder, isNamedPi, isLambda}
+use Rattle.pretty_printer.specs.Binders.{Binder, isNamedPi, isLambda, binderName}
 
 -- an application's tile, from its head on
 module _ (pp : Expr → Parenable) where
@@ -86,3 +86,42 @@ dropChain n (letᵉ p m t v b d) = letᵉ p m t v b d
 dropChain n (proj m i e) = proj m i e
 dropChain n (nat s) = nat s
 dropChain n (str s) = str s
+
+-- a pi, or a lambda
+unfoldable pub mkBinder : Bool → ℕ → Name → ℕ → Expr → Expr → Expr
+mkBinder true p n s t b = pi p n s t b
+mkBinder false p n s t b = lam p n s t b
+
+unfoldable pub isBinder : Expr → Bool
+isBinder (var i) = false
+isBinder (sort l) = false
+isBinder (const n ls) = false
+isBinder (app f a) = false
+isBinder (pi p n s t b) = true
+isBinder (lam p n s t b) = true
+isBinder (letᵉ p n t v b d) = false
+isBinder (proj n i e) = false
+isBinder (nat s) = false
+isBinder (str s) = false
+
+-- the kinds 4 and 5
+unfoldable pub binderKind : ℕ → Bool
+binderKind kind = eqb kind 4 || eqb kind 5
+
+-- how many binders a chain has
+unfoldable pub chainLength : Expr → ℕ
+chainLength (var i) = 0
+chainLength (sort l) = 0
+chainLength (const n ls) = 0
+chainLength (app f a) = 0
+chainLength (pi p n s t b) = suc (chainLength b)
+chainLength (lam p n s t b) = suc (chainLength b)
+chainLength (letᵉ p n t v b d) = 0
+chainLength (proj n i e) = 0
+chainLength (nat s) = 0
+chainLength (str s) = 0
+
+-- the names of a chain's first binders, as documents
+unfoldable pub nameDocs : ℕ → Expr → List Marked
+nameDocs zero e = []
+nameDocs (suc n) e = binderName (firstBinder e) ∷ nameDocs n (dropChain 1 e)

@@ -1,2 +1,5 @@
-// From trees to documents: names, levels, expressions, binders, declarations.
+// From trees to documents: expressions, binders, declarations.
+pub mod binders;
+pub mod chain;
+pub mod puts;
 pub mod stack;

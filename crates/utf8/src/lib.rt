@@ -3,6 +3,9 @@ pub mod bools;
 pub mod letterlike;
 mod scan;
 
+pub use letterlike::is_letterlike_rest;
+pub use letterlike::is_letterlike_start;
+pub use letterlike::ok_str;
 ghost use mathlib.Core.Path.{_≡_};
 ghost use Rattle.utf8.specs.Utf8.{utf8};
 

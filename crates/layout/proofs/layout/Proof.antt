@@ -1,4 +1,4 @@
-use mathlib.Core.Path.{_≡_, refl, sym, ap, _∙_, subst}
+use mathlib.Core.Path.{sym, _∙_}
 use lib.ListN.{length}
 use borrow.Author.Tests.{not-true, not-false}
 use Rattle.document.proofs.Faults.{counts}
@@ -11,26 +11,46 @@ counts-ok-requires : tie.Need-counts-ok-requires
 counts-ok-requires c κs = search needs
 
 returns : tie.Need-returns
-returns c = answer-counts (c .before .before .before .before .before .args .rows .now) (c .before .before .before .before .before .args .count) (c .before .before .before .before .before .args .text .now) (c .before .before .before .before .before .args .total) (c .before .before .before .before .before .args .width) (c .before .before .before .before .before .args .listing .now) (sym (c .before .counts-ok .ensures) ∙ not-true _ (c .if1 .taken))
+returns c =
+    let a = c .before .before .before .before .before .args in
+    answer-counts (a .rows .now) (a .count) (a .text .now) (a .total) (a .width) (a .listing .now) (sym (c .before .counts-ok .ensures) ∙ not-true _ (c .if1 .taken))
 
 find-fault-requires : tie.Need-find-fault-requires
-find-fault-requires c κs = counts (length (c .before .before .before .before .before .args .rows .now)) (c .before .before .before .before .before .args .count) (length (c .before .before .before .before .before .args .text .now)) (c .before .before .before .before .before .args .total) (sym (c .before .counts-ok .ensures) ∙ not-false _ (c .if1 .left)) .few
+find-fault-requires c κs =
+    let a = c .before .before .before .before .before .args in
+    counts (length (a .rows .now)) (a .count) (length (a .text .now)) (a .total) (sym (c .before .counts-ok .ensures) ∙ not-false _ (c .if1 .left)) .few
 
 returns-2 : tie.Need-returns-2
-returns-2 c = answer-fault (c .before .before .before .before .before .before .before .args .rows .now) (c .before .before .before .before .before .before .before .args .count) (c .before .before .before .before .before .before .before .args .text .now) (c .before .before .before .before .before .before .before .args .total) (c .before .before .before .before .before .before .before .args .width) (c .before .before .before .before .before .before .before .args .listing .now) (sym (c .before .before .before .counts-ok .ensures) ∙ not-false _ (c .before .before .if1 .left)) _ (c .before .find-fault .ensures) (c .if2 .taken)
+returns-2 c =
+    let a = c .before .before .before .before .before .before .before .args in
+    answer-fault (a .rows .now) (a .count) (a .text .now) (a .total) (a .width) (a .listing .now) (sym (c .before .before .before .counts-ok .ensures) ∙ not-false _ (c .before .before .if1 .left)) _ (c .before .find-fault .ensures) (c .if2 .taken)
 
 returns-3 : tie.Need-returns-3
-returns-3 c = answer-width (c .before .before .before .before .before .before .before .before .args .rows .now) (c .before .before .before .before .before .before .before .before .args .count) (c .before .before .before .before .before .before .before .before .args .text .now) (c .before .before .before .before .before .before .before .before .args .total) (c .before .before .before .before .before .before .before .before .args .width) (c .before .before .before .before .before .before .before .before .args .listing .now) (sym (c .before .before .before .before .counts-ok .ensures) ∙ not-false _ (c .before .before .before .if1 .left)) (no-fault (c .before .before .before .before .before .before .before .before .args .rows .now) (c .before .before .before .before .before .before .before .before .args .count) (c .before .before .before .before .before .before .before .before .args .text .now) (c .before .before .before .before .before .before .before .before .args .total) (c .before .before .before .before .before .before .before .before .args .width) (c .before .before .before .before .before .before .before .before .args .listing .now) (sym (c .before .before .before .before .counts-ok .ensures) ∙ not-false _ (c .before .before .before .if1 .left)) (c .before .before .find-fault .result) (c .before .before .find-fault .ensures) (c .before .if2 .left)) (c .if3 .taken)
+returns-3 c =
+    let a = c .before .before .before .before .before .before .before .before .args in
+    let counts-ok = c .before .before .before .before .counts-ok in
+    let if1 = c .before .before .before .if1 in
+    let find-fault = c .before .before .find-fault in
+    answer-width (a .rows .now) (a .count) (a .text .now) (a .total) (a .width) (a .listing .now) (sym (counts-ok .ensures) ∙ not-false _ (if1 .left)) (no-fault (a .rows .now) (a .count) (a .text .now) (a .total) (a .width) (a .listing .now) (sym (counts-ok .ensures) ∙ not-false _ (if1 .left)) (find-fault .result) (find-fault .ensures) (c .before .if2 .left)) (c .if3 .taken)
 
 layout-accepted-requires : tie.Need-layout-accepted-requires
-layout-accepted-requires c κs = ((record { counts = (sym (c .before .before .before .before .before .counts-ok .ensures) ∙ not-false _ (c .before .before .before .before .if1 .left)); faultless = (no-fault (c .before .before .before .before .before .before .before .before .before .args .rows .now) (c .before .before .before .before .before .before .before .before .before .args .count) (c .before .before .before .before .before .before .before .before .before .args .text .now) (c .before .before .before .before .before .before .before .before .before .args .total) (c .before .before .before .before .before .before .before .before .before .args .width) (c .before .before .before .before .before .before .before .before .before .args .listing .now) (sym (c .before .before .before .before .before .counts-ok .ensures) ∙ not-false _ (c .before .before .before .before .if1 .left)) (c .before .before .before .find-fault .result) (c .before .before .before .find-fault .ensures) (c .before .before .if2 .left)) }), c .before .if3 .left)
+layout-accepted-requires c κs =
+    let a = c .before .before .before .before .before .before .before .before .before .args in
+    let counts-ok = c .before .before .before .before .before .counts-ok in
+    let if1 = c .before .before .before .before .if1 in
+    let find-fault = c .before .before .before .find-fault in
+    ((record { counts = (sym (counts-ok .ensures) ∙ not-false _ (if1 .left)); faultless = (no-fault (a .rows .now) (a .count) (a .text .now) (a .total) (a .width) (a .listing .now) (sym (counts-ok .ensures) ∙ not-false _ (if1 .left)) (find-fault .result) (find-fault .ensures) (c .before .before .if2 .left)) }), c .before .if3 .left)
 
 same-length : tie.Need-same-length
 same-length c = search needs
 
 returns-4 : tie.Need-returns-4
 returns-4 c =
-    c .before .before .layout-accepted .ensures ∙ answer-listed (c .before .before .before .before .before .before .before .before .before .before .before .before .args .rows .now) (c .before .before .before .before .before .before .before .before .before .before .before .before .args .count) (c .before .before .before .before .before .before .before .before .before .before .before .before .args .text .now) (c .before .before .before .before .before .before .before .before .before .before .before .before .args .total) (c .before .before .before .before .before .before .before .before .before .before .before .before .args .width) (c .before .before .before .before .before .before .before .before .before .before .before .before .args .listing .now) (sym (c .before .before .before .before .before .before .before .before .counts-ok .ensures) ∙ not-false _ (c .before .before .before .before .before .before .before .if1 .left)) (no-fault (c .before .before .before .before .before .before .before .before .before .before .before .before .args .rows .now) (c .before .before .before .before .before .before .before .before .before .before .before .before .args .count) (c .before .before .before .before .before .before .before .before .before .before .before .before .args .text .now) (c .before .before .before .before .before .before .before .before .before .before .before .before .args .total) (c .before .before .before .before .before .before .before .before .before .before .before .before .args .width) (c .before .before .before .before .before .before .before .before .before .before .before .before .args .listing .now) (sym (c .before .before .before .before .before .before .before .before .counts-ok .ensures) ∙ not-false _ (c .before .before .before .before .before .before .before .if1 .left)) (c .before .before .before .before .before .before .find-fault .result) (c .before .before .before .before .before .before .find-fault .ensures) (c .before .before .before .before .before .if2 .left)) (c .before .before .before .before .if3 .left)
+    let a = c .before .before .before .before .before .before .before .before .before .before .before .before .args in
+    let counts-ok = c .before .before .before .before .before .before .before .before .counts-ok in
+    let if1 = c .before .before .before .before .before .before .before .if1 in
+    let find-fault = c .before .before .before .before .before .before .find-fault in
+    c .before .before .layout-accepted .ensures ∙ answer-listed (a .rows .now) (a .count) (a .text .now) (a .total) (a .width) (a .listing .now) (sym (counts-ok .ensures) ∙ not-false _ (if1 .left)) (no-fault (a .rows .now) (a .count) (a .text .now) (a .total) (a .width) (a .listing .now) (sym (counts-ok .ensures) ∙ not-false _ (if1 .left)) (find-fault .result) (find-fault .ensures) (c .before .before .before .before .before .if2 .left)) (c .before .before .before .before .if3 .left)
 
 pub layout-spec : {M : Type 1} → statement M
 layout-spec =

@@ -1,5 +1,5 @@
 use Prim.Native.Nat.{ℕ, _<_, _≤_}
-use mathlib.Core.Path.{_≡_, refl, sym, ap, _∙_, subst}
+use mathlib.Core.Path.{refl, sym, subst}
 use lib.Seq.{length-take-le}
 use Rattle.document.proofs.Faults.{accepted-counts}
 use Rattle.layout.proofs.Answers.{whole-room, answer-short, answer-done}
@@ -11,15 +11,21 @@ sub-lay-out : tie.Need-sub-lay-out
 sub-lay-out c = accepted-counts (c .before .before .before .pre .0) .pos
 
 lay-out-requires : tie.Need-lay-out-requires
-lay-out-requires c κs = whole-room (c .before .before .before .before .args .rows .now) (c .before .before .before .before .args .count) (c .before .before .before .before .args .text .now) (c .before .before .before .before .args .total) (c .before .before .before .before .args .width) (c .before .before .before .before .pre .0) (c .before .before .before .before .pre .1)
+lay-out-requires c κs =
+    let a = c .before .before .before .before .args in
+    let pre = c .before .before .before .before .pre in
+    whole-room (a .rows .now) (a .count) (a .text .now) (a .total) (a .width) (pre .0) (pre .1)
 
 same-length : tie.Need-same-length
 same-length c = search needs
 
 returns : tie.Need-returns
 returns c =
-    let keep = c .before .before .before .lay-out .kept .1 .1 .1 .1 .1 .1 .1 .1 .0 in
-    answer-short (c .before .before .before .before .before .before .before .before .args .rows .now) (c .before .before .before .before .before .before .before .before .args .count) (c .before .before .before .before .before .before .before .before .args .text .now) (c .before .before .before .before .before .before .before .before .args .total) (c .before .before .before .before .before .before .before .before .args .width) (c .before .before .before .before .before .before .before .before .pre .0) (c .before .before .before .before .before .before .before .before .pre .1) (c .before .before .before .lay-out .result) (c .before .before .before .before .before .before .before .before .args .listing .now) (c .before .before .before .lay-out .last .1 .1 .1 .1 .1 .1 .1 .1 .0) (c .before .before .before .lay-out .ensures) (subst (λ (n : ℕ). n < c .before .before .before .lay-out .result .position) keep (c .if1 .taken))
+    let a = c .before .before .before .before .before .before .before .before .args in
+    let lay-out = c .before .before .before .lay-out in
+    let pre = c .before .before .before .before .before .before .before .before .pre in
+    let keep = lay-out .kept .1 .1 .1 .1 .1 .1 .1 .1 .0 in
+    answer-short (a .rows .now) (a .count) (a .text .now) (a .total) (a .width) (pre .0) (pre .1) (lay-out .result) (a .listing .now) (lay-out .last .1 .1 .1 .1 .1 .1 .1 .1 .0) (lay-out .ensures) (subst (λ (n : ℕ). n < lay-out .result .position) keep (c .if1 .taken))
 
 slice-reshare-prefix-count-of : tie.Need-slice-reshare-prefix-count-of
 slice-reshare-prefix-count-of c = search needs
@@ -38,8 +44,11 @@ same-length-2 c = search needs
 
 returns-2 : tie.Need-returns-2
 returns-2 c =
-    let keep = c .before .before .before .before .before .lay-out .kept .1 .1 .1 .1 .1 .1 .1 .1 .0 in
-    answer-done (c .before .before .before .before .before .before .before .before .before .before .args .rows .now) (c .before .before .before .before .before .before .before .before .before .before .args .count) (c .before .before .before .before .before .before .before .before .before .before .args .text .now) (c .before .before .before .before .before .before .before .before .before .before .args .total) (c .before .before .before .before .before .before .before .before .before .before .args .width) (c .before .before .before .before .before .before .before .before .before .before .pre .0) (c .before .before .before .before .before .before .before .before .before .before .pre .1) (c .before .before .before .before .before .lay-out .result) (c .before .before .before .before .before .before .before .before .before .before .args .listing .now) (c .before .before .before .before .before .lay-out .last .1 .1 .1 .1 .1 .1 .1 .1 .0) (c .before .before .before .before .before .lay-out .ensures) (c .count-of .result) _ (subst (λ (n : ℕ). c .before .before .before .before .before .lay-out .result .position ≤ n) keep (c .before .before .if1 .left)) (c .count-of .ensures .0) refl
+    let a = c .before .before .before .before .before .before .before .before .before .before .args in
+    let lay-out = c .before .before .before .before .before .lay-out in
+    let pre = c .before .before .before .before .before .before .before .before .before .before .pre in
+    let keep = lay-out .kept .1 .1 .1 .1 .1 .1 .1 .1 .0 in
+    answer-done (a .rows .now) (a .count) (a .text .now) (a .total) (a .width) (pre .0) (pre .1) (lay-out .result) (a .listing .now) (lay-out .last .1 .1 .1 .1 .1 .1 .1 .1 .0) (lay-out .ensures) (c .count-of .result) _ (subst (λ (n : ℕ). lay-out .result .position ≤ n) keep (c .before .before .if1 .left)) (c .count-of .ensures .0) refl
 
 pub layout-accepted-spec : {M : Type 1} → statement M
 layout-accepted-spec =

@@ -1,4 +1,4 @@
-use mathlib.Core.Path.{_≡_, refl, sym, ap, ap₂, _∙_}
+use mathlib.Core.Path.{ap, _∙_}
 use Prim.Native.Nat.{_*_}
 use native.Mathlib.Omega.{arith}
 use native.Mathlib.Nat.{pos-of-ne-zero}
@@ -27,7 +27,8 @@ both-requires-2 c κs = search needs
 
 returns-3 : tie.Need-returns-3
 returns-3 c =
-    first-true _ _ _ (lt-ltb _ _ (pos-of-ne-zero (c .before .before .before .if1 .left))) (first-true _ _ _ (le-leb _ _ (c .before .before .if2 .left)) (c .both2 .ensures ∙ ap (λ (b : Bool). leb (c .before .before .before .before .args .count * 7) (c .before .before .before .before .args .words) && b) (c .before .both .ensures)))
+    let a = c .before .before .before .before .args in
+    first-true _ _ _ (lt-ltb _ _ (pos-of-ne-zero (c .before .before .before .if1 .left))) (first-true _ _ _ (le-leb _ _ (c .before .before .if2 .left)) (c .both2 .ensures ∙ ap (λ (b : Bool). leb (a .count * 7) (a .words) && b) (c .before .both .ensures)))
 
 pub counts-ok-spec : {M : Type 1} → statement M
 counts-ok-spec =

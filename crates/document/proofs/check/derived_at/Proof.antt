@@ -1,4 +1,4 @@
-use mathlib.Core.Path.{_≡_, refl, sym, ap, ap₂, _∙_}
+use mathlib.Core.Path.{sym, ap, ap₂, _∙_}
 use Prim.Native.Nat.{ℕ}
 use Rattle.document.specs.Rows.{measuresAt, derived, joined, wrapped}
 use Rattle.document.proofs.Words.{kind-wrapped}
@@ -14,16 +14,18 @@ word-at-requires-2 c κs = search needs
 
 returns : tie.Need-returns
 returns c =
+    let a = c .before .before .before .before .args in
     ap (λ (n : ℕ). record { count = 1; flat = n; first = n; has = 0 }) (c .word-at2 .ensures .0)
-    ∙ ap (derived (c .before .before .before .before .args .rows .now) (c .before .before .before .before .args .r)) (sym (sym (c .before .before .word-at .ensures .0) ∙ c .before .if1 .taken))
+    ∙ ap (derived (a .rows .now) (a .r)) (sym (sym (c .before .before .word-at .ensures .0) ∙ c .before .if1 .taken))
 
 word-at-requires-3 : tie.Need-word-at-requires-3
 word-at-requires-3 c κs = search needs
 
 returns-2 : tie.Need-returns-2
 returns-2 c =
+    let a = c .before .before .before .before .before .args in
     ap (λ (n : ℕ). record { count = 1; flat = n; first = 0; has = 1 }) (c .word-at3 .ensures .0)
-    ∙ ap (derived (c .before .before .before .before .before .args .rows .now) (c .before .before .before .before .before .args .r)) (sym (sym (c .before .before .before .word-at .ensures .0) ∙ c .before .if2 .taken))
+    ∙ ap (derived (a .rows .now) (a .r)) (sym (sym (c .before .before .before .word-at .ensures .0) ∙ c .before .if2 .taken))
 
 less-requires : tie.Need-less-requires
 less-requires c κs = search needs
@@ -42,18 +44,20 @@ joined-requires c κs = search needs
 
 returns-3 : tie.Need-returns-3
 returns-3 c =
+    let a = c .before .before .before .before .before .before .before .before .before .before .args in
     c .joined .ensures
-    ∙ ap₂ joined (c .before .measures-at2 .ensures .0 ∙ ap (measuresAt (c .before .before .before .before .before .before .before .before .before .before .args .rows .now)) (c .before .before .left-of .ensures)) (c .before .before .before .before .measures-at .ensures .0 ∙ ap (measuresAt (c .before .before .before .before .before .before .before .before .before .before .args .rows .now)) (c .before .before .before .before .before .less .ensures))
-    ∙ ap (derived (c .before .before .before .before .before .before .before .before .before .before .args .rows .now) (c .before .before .before .before .before .before .before .before .before .before .args .r)) (sym (sym (c .before .before .before .before .before .before .before .before .word-at .ensures .0) ∙ c .before .before .before .if3 .taken))
+    ∙ ap₂ joined (c .before .measures-at2 .ensures .0 ∙ ap (measuresAt (a .rows .now)) (c .before .before .left-of .ensures)) (c .before .before .before .before .measures-at .ensures .0 ∙ ap (measuresAt (a .rows .now)) (c .before .before .before .before .before .less .ensures))
+    ∙ ap (derived (a .rows .now) (a .r)) (sym (sym (c .before .before .before .before .before .before .before .before .word-at .ensures .0) ∙ c .before .before .before .if3 .taken))
 
 wrapped-requires : tie.Need-wrapped-requires
 wrapped-requires c κs = search needs
 
 returns-4 : tie.Need-returns-4
 returns-4 c =
+    let a = c .before .before .before .before .before .before .before .before .args in
     let k = kind-wrapped _ (c .before .before .before .before .before .if1 .left) (c .before .if3 .left) (c .before .before .before .before .if2 .left) in
-    c .wrapped .ensures ∙ ap wrapped (c .before .before .measures-at .ensures .0 ∙ ap (measuresAt (c .before .before .before .before .before .before .before .before .args .rows .now)) (c .before .before .before .less .ensures))
-    ∙ ap (derived (c .before .before .before .before .before .before .before .before .args .rows .now) (c .before .before .before .before .before .before .before .before .args .r)) (sym (sym (c .before .before .before .before .before .before .word-at .ensures .0) ∙ k .1))
+    c .wrapped .ensures ∙ ap wrapped (c .before .before .measures-at .ensures .0 ∙ ap (measuresAt (a .rows .now)) (c .before .before .before .less .ensures))
+    ∙ ap (derived (a .rows .now) (a .r)) (sym (sym (c .before .before .before .before .before .before .word-at .ensures .0) ∙ k .1))
 
 pub derived-at-spec : {M : Type 1} → statement M
 derived-at-spec =

@@ -21,7 +21,8 @@ both-requires c κs = search needs
 
 returns : tie.Need-returns
 returns c =
-    text-fields (c .before .before .before .before .before .before .args .rows .now) (c .before .before .before .before .before .before .args .total) (c .before .before .before .before .before .before .args .before) (c .before .before .before .before .before .before .args .r) _ _ _ (c .before .before .before .before .word-at .ensures .0) (c .before .before .before .word-at2 .ensures .0) (c .before .before .word-at3 .ensures .0) _ true (c .before .if1 .taken) (c .both .ensures)
+    let a = c .before .before .before .before .before .before .args in
+    text-fields (a .rows .now) (a .total) (a .before) (a .r) _ _ _ (c .before .before .before .before .word-at .ensures .0) (c .before .before .before .word-at2 .ensures .0) (c .before .before .word-at3 .ensures .0) _ true (c .before .if1 .taken) (c .both .ensures)
 
 less-requires : tie.Need-less-requires
 less-requires c κs = search needs
@@ -37,14 +38,16 @@ both-requires-3 c κs = search needs
 
 returns-2 : tie.Need-returns-2
 returns-2 c =
-    join-fields (c .before .before .before .before .before .before .before .before .before .before .args .rows .now) (c .before .before .before .before .before .before .before .before .before .before .args .total) (c .before .before .before .before .before .before .before .before .before .before .args .before) (c .before .before .before .before .before .before .before .before .before .before .args .r) _ _ _ (c .before .before .before .before .before .before .before .before .word-at .ensures .0) (c .before .before .before .before .before .before .before .word-at2 .ensures .0) (c .before .before .before .before .before .before .word-at3 .ensures .0) _ _ _ _ (c .before .before .before .before .if2 .taken) (c .before .before .before .less .ensures) (c .before .before .word-at4 .ensures .0) (c .before .both2 .ensures) (c .both3 .ensures)
+    let a = c .before .before .before .before .before .before .before .before .before .before .args in
+    join-fields (a .rows .now) (a .total) (a .before) (a .r) _ _ _ (c .before .before .before .before .before .before .before .before .word-at .ensures .0) (c .before .before .before .before .before .before .before .word-at2 .ensures .0) (c .before .before .before .before .before .before .word-at3 .ensures .0) _ _ _ _ (c .before .before .before .before .if2 .taken) (c .before .before .before .less .ensures) (c .before .before .word-at4 .ensures .0) (c .before .both2 .ensures) (c .both3 .ensures)
 
 both-requires-4 : tie.Need-both-requires-4
 both-requires-4 c κs = search needs
 
 returns-3 : tie.Need-returns-3
 returns-3 c =
-    break-fields (c .before .before .before .before .before .before .before .before .args .rows .now) (c .before .before .before .before .before .before .before .before .args .total) (c .before .before .before .before .before .before .before .before .args .before) (c .before .before .before .before .before .before .before .before .args .r) _ _ _ (c .before .before .before .before .before .before .word-at .ensures .0) (c .before .before .before .before .before .word-at2 .ensures .0) (c .before .before .before .before .word-at3 .ensures .0) _ true (c .before .if3 .taken) (c .both4 .ensures)
+    let a = c .before .before .before .before .before .before .before .before .args in
+    break-fields (a .rows .now) (a .total) (a .before) (a .r) _ _ _ (c .before .before .before .before .before .before .word-at .ensures .0) (c .before .before .before .before .before .word-at2 .ensures .0) (c .before .before .before .before .word-at3 .ensures .0) _ true (c .before .if3 .taken) (c .both4 .ensures)
 
 both-requires-5 : tie.Need-both-requires-5
 both-requires-5 c κs = search needs
@@ -54,7 +57,8 @@ both-requires-6 c κs = search needs
 
 returns-4 : tie.Need-returns-4
 returns-4 c =
-    nest-fields (c .before .before .before .before .before .before .before .before .before .before .args .rows .now) (c .before .before .before .before .before .before .before .before .before .before .args .total) (c .before .before .before .before .before .before .before .before .before .before .args .before) (c .before .before .before .before .before .before .before .before .before .before .args .r) _ _ _ (c .before .before .before .before .before .before .before .before .word-at .ensures .0) (c .before .before .before .before .before .before .before .word-at2 .ensures .0) (c .before .before .before .before .before .before .word-at3 .ensures .0) _ _ (c .before .before .if4 .taken) (c .before .both5 .ensures) (c .both6 .ensures)
+    let a = c .before .before .before .before .before .before .before .before .before .before .args in
+    nest-fields (a .rows .now) (a .total) (a .before) (a .r) _ _ _ (c .before .before .before .before .before .before .before .before .word-at .ensures .0) (c .before .before .before .before .before .before .before .word-at2 .ensures .0) (c .before .before .before .before .before .before .word-at3 .ensures .0) _ _ (c .before .before .if4 .taken) (c .before .both5 .ensures) (c .both6 .ensures)
 
 both-requires-7 : tie.Need-both-requires-7
 both-requires-7 c κs = search needs
@@ -67,7 +71,8 @@ both-requires-9 c κs = search needs
 
 returns-5 : tie.Need-returns-5
 returns-5 c =
-    group-fields (c .before .before .before .before .before .before .before .before .before .before .before .args .rows .now) (c .before .before .before .before .before .before .before .before .before .before .before .args .total) (c .before .before .before .before .before .before .before .before .before .before .before .args .before) (c .before .before .before .before .before .before .before .before .before .before .before .args .r) _ _ _ (c .before .before .before .before .before .before .before .before .before .word-at .ensures .0) (c .before .before .before .before .before .before .before .before .word-at2 .ensures .0) (c .before .before .before .before .before .before .before .word-at3 .ensures .0) _ _ _ (c .before .before .before .before .before .before .if1 .left) (c .before .before .before .before .before .if2 .left) (c .before .before .before .before .if3 .left) (c .before .before .before .if4 .left) (c .before .before .both7 .ensures) (c .before .both8 .ensures) (c .both9 .ensures)
+    let a = c .before .before .before .before .before .before .before .before .before .before .before .args in
+    group-fields (a .rows .now) (a .total) (a .before) (a .r) _ _ _ (c .before .before .before .before .before .before .before .before .before .word-at .ensures .0) (c .before .before .before .before .before .before .before .before .word-at2 .ensures .0) (c .before .before .before .before .before .before .before .word-at3 .ensures .0) _ _ _ (c .before .before .before .before .before .before .if1 .left) (c .before .before .before .before .before .if2 .left) (c .before .before .before .before .if3 .left) (c .before .before .before .if4 .left) (c .before .before .both7 .ensures) (c .before .both8 .ensures) (c .both9 .ensures)
 
 pub fields-ok-spec : {M : Type 1} → statement M
 fields-ok-spec =

@@ -1,4 +1,4 @@
-use mathlib.Core.Path.{_≡_, refl, sym, ap, ap₂, _∙_}
+use mathlib.Core.Path.{_≡_, sym, ap, _∙_}
 use Prim.Native.Nat.{ℕ, _≤_, _*_, _-_}
 use native.Mathlib.Omega.{arith}
 use borrow.Author.Needs.{needs}
@@ -40,7 +40,8 @@ loop-less c = omega arith
 
 loop-again : tie.Need-loop-again Inv-loop μ-loop
 loop-again c =
-    (omega arith, text-next _ _ _ _ (c .before .before .before .before .loop .inv .1) (c .own-text .ensures .0), omega (arith, c .own-text .ensures), scan-step _ _ _ _ (c .before .before .before .loop-test .taken) (ok-is _ _ _ _ _ (c .before .before .before .before .loop .inv .1) (c .before .before .row-ok .ensures) ∙ not-false _ (c .before .if1 .left)) (c .before .before .before .before .loop .inv .3))
+    let l = c .before .before .before .before .loop in
+    (omega arith, text-next _ _ _ _ (l .inv .1) (c .own-text .ensures .0), omega (arith, c .own-text .ensures), scan-step _ _ _ _ (c .before .before .before .loop-test .taken) (ok-is _ _ _ _ _ (l .inv .1) (c .before .before .row-ok .ensures) ∙ not-false _ (c .before .if1 .left)) (l .inv .3))
 
 less-requires : tie.Need-less-requires Inv-loop μ-loop
 less-requires c κs = search needs
@@ -53,14 +54,19 @@ both-requires c κs = search needs
 
 returns-2 : tie.Need-returns-2 Inv-loop μ-loop
 returns-2 c =
-    ap (λ (b : Bool). cond b (c .before .before .before .before .before .before .before .args .count) (c .before .before .before .before .before .before .before .args .count - 1)) (sym (c .if2 .taken))
-    ∙ fault-end _ _ _ _ _ _ _ (c .before .before .before .before .before .loop .inv .0) (c .before .before .before .before .loop-test .left) (c .before .before .before .before .before .loop .inv .3) (c .before .before .before .before .before .loop .inv .1) (c .before .before .word-at .ensures .0 ∙ ap (λ (k : ℕ). word (c .before .before .before .before .before .before .before .args .rows .now) k 3) (c .before .before .before .less .ensures)) (c .before .both .ensures)
+    let a = c .before .before .before .before .before .before .before .args in
+    let l = c .before .before .before .before .before .loop in
+    ap (λ (b : Bool). cond b (a .count) (a .count - 1)) (sym (c .if2 .taken))
+    ∙ fault-end _ _ _ _ _ _ _ (l .inv .0) (c .before .before .before .before .loop-test .left) (l .inv .3) (l .inv .1) (c .before .before .word-at .ensures .0 ∙ ap (λ (k : ℕ). word (a .rows .now) k 3) (c .before .before .before .less .ensures)) (c .before .both .ensures)
 
 returns-3 : tie.Need-returns-3 Inv-loop μ-loop
 returns-3 c =
-    c .before .before .before .less .ensures
-    ∙ ap (λ (b : Bool). cond b (c .before .before .before .before .before .before .before .args .count) (c .before .before .before .before .before .before .before .args .count - 1)) (sym (c .if2 .left))
-    ∙ fault-end _ _ _ _ _ _ _ (c .before .before .before .before .before .loop .inv .0) (c .before .before .before .before .loop-test .left) (c .before .before .before .before .before .loop .inv .3) (c .before .before .before .before .before .loop .inv .1) (c .before .before .word-at .ensures .0 ∙ ap (λ (k : ℕ). word (c .before .before .before .before .before .before .before .args .rows .now) k 3) (c .before .before .before .less .ensures)) (c .before .both .ensures)
+    let a = c .before .before .before .before .before .before .before .args in
+    let l = c .before .before .before .before .before .loop in
+    let less = c .before .before .before .less in
+    less .ensures
+    ∙ ap (λ (b : Bool). cond b (a .count) (a .count - 1)) (sym (c .if2 .left))
+    ∙ fault-end _ _ _ _ _ _ _ (l .inv .0) (c .before .before .before .before .loop-test .left) (l .inv .3) (l .inv .1) (c .before .before .word-at .ensures .0 ∙ ap (λ (k : ℕ). word (a .rows .now) k 3) (less .ensures)) (c .before .both .ensures)
 
 pub find-fault-spec : {M : Type 1} → statement M
 find-fault-spec =

@@ -1,4 +1,4 @@
-use mathlib.Core.Path.{_≡_, refl, sym, ap, ap₂, _∙_}
+use mathlib.Core.Path.{sym, ap, _∙_}
 use native.Mathlib.Omega.{arith}
 use Rattle.document.specs.Rows.{ownText}
 use Rattle.document.proofs.Faults.{no-own-text}
@@ -14,7 +14,8 @@ word-at-requires-2 c κs = search needs
 
 returns : tie.Need-returns
 returns c =
-    (c .word-at2 .ensures .0 ∙ ap (ownText (c .before .before .before .before .args .rows .now) (c .before .before .before .before .args .r)) (sym (sym (c .before .before .word-at .ensures .0) ∙ c .before .if1 .taken)), c .word-at2 .ensures .1)
+    let a = c .before .before .before .before .args in
+    (c .word-at2 .ensures .0 ∙ ap (ownText (a .rows .now) (a .r)) (sym (sym (c .before .before .word-at .ensures .0) ∙ c .before .if1 .taken)), c .word-at2 .ensures .1)
 
 returns-2 : tie.Need-returns-2
 returns-2 c = (no-own-text _ _ _ (λ e. c .if1 .left (c .before .word-at .ensures .0 ∙ e)), omega arith)

@@ -1,4 +1,4 @@
-use mathlib.Core.Path.{_≡_, refl, sym, ap, ap₂, _∙_}
+use mathlib.Core.Path.{ap₂, _∙_}
 use mathlib.Core.Bool.{_&&_}
 use Rattle.document.specs.Rows.{same}
 use borrow.Author.Needs.{needs}

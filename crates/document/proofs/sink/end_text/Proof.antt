@@ -1,4 +1,4 @@
-use mathlib.Core.Path.{_≡_, refl, sym, ap, ap₂, _∙_}
+use mathlib.Core.Path.{_∙_}
 use Rattle.document.specs.Sink.State.{state}
 use Rattle.document.proofs.Areas.{text-row}
 use borrow.Author.Needs.{needs}
@@ -24,7 +24,9 @@ same-length-2 : tie.Need-same-length-2
 same-length-2 c = search needs
 
 returns : tie.Need-returns
-returns c = c .before .before .before .before .put-row .ensures ∙ text-row (state (c .before .before .before .before .before .before .before .before .before .before .before .before .args .rows .now) (c .before .before .before .before .before .before .before .before .before .before .before .before .args .text .now) (c .before .before .before .before .before .before .before .before .before .before .before .before .args .s)) _ _ _ _ (c .before .before .before .before .before .before .before .before .before .less .ensures) (c .before .before .before .before .before .before .low .ensures) (c .before .before .before .before .before .low2 .ensures)
+returns c =
+    let a = c .before .before .before .before .before .before .before .before .before .before .before .before .args in
+    c .before .before .before .before .put-row .ensures ∙ text-row (state (a .rows .now) (a .text .now) (a .s)) _ _ _ _ (c .before .before .before .before .before .before .before .before .before .less .ensures) (c .before .before .before .before .before .before .low .ensures) (c .before .before .before .before .before .low2 .ensures)
 
 pub end-text-spec : {M : Type 1} → statement M
 end-text-spec =

@@ -1,4 +1,4 @@
-use mathlib.Core.Path.{_≡_, refl, sym, ap, ap₂, _∙_}
+use mathlib.Core.Path.{_≡_, sym, ap, _∙_}
 use Prim.Native.Nat.{_+_, _-_, _≤_}
 use lib.ListN.{length, drop}
 use Rattle.document.specs.Sink.{putBytes}
@@ -32,8 +32,9 @@ loop-less c = search needs
 
 loop-again : tie.Need-loop-again Inv-loop μ-loop
 loop-again c =
+    let a = c .before .before .before .before .before .before .before .before .before .before .before .before .before .args in
     let l = c .before .before .before .before .before .before .before .before .before .loop in
-    (search needs, search needs, search needs, ap (putBytes (drop (l .i + 1) (c .before .before .before .before .before .before .before .before .before .before .before .before .before .args .bytes .now))) (c .before .before .before .before .put-byte .ensures) ∙ bytes-step (state (l .rows) (l .text) (l .o)) (c .before .before .before .before .before .before .before .before .before .before .before .before .before .args .bytes .now) (l .i) (c .before .before .before .before .before .before .before .before .loop-test .taken) ∙ l .inv .3)
+    (search needs, search needs, search needs, ap (putBytes (drop (l .i + 1) (a .bytes .now))) (c .before .before .before .before .put-byte .ensures) ∙ bytes-step (state (l .rows) (l .text) (l .o)) (a .bytes .now) (l .i) (c .before .before .before .before .before .before .before .before .loop-test .taken) ∙ l .inv .3)
 
 same-length : tie.Need-same-length Inv-loop μ-loop
 same-length c = search needs

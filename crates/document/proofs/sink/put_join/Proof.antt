@@ -1,4 +1,4 @@
-use mathlib.Core.Path.{_≡_, refl, sym, ap, ap₂, _∙_}
+use mathlib.Core.Path.{ap, ap₂, _∙_}
 use Rattle.document.specs.declared.measures.Measures.{Measures}
 use Rattle.document.specs.Sink.{putRow}
 use Rattle.document.specs.Sink.State.{state}
@@ -35,10 +35,11 @@ same-length-2 c = search needs
 returns : tie.Need-returns
 unfolding putJoin
 returns c =
+    let a = c .before .before .before .before .before .before .before .before .before .before .before .before .before .before .before .before .args in
     c .before .before .before .before .put-row .ensures
-    ∙ ap (λ (m : Measures). putRow 1 0 0 m (state (c .before .before .before .before .before .before .before .before .before .before .before .before .before .before .before .before .args .rows .now) (c .before .before .before .before .before .before .before .before .before .before .before .before .before .before .before .before .args .text .now) (c .before .before .before .before .before .before .before .before .before .before .before .before .before .before .before .before .args .s)))
+    ∙ ap (λ (m : Measures). putRow 1 0 0 m (state (a .rows .now) (a .text .now) (a .s)))
     (c .before .before .before .before .before .before .before .joined .ensures
-    ∙ ap₂ joined (c .before .before .before .before .before .before .before .before .before .before .before .measures-at .ensures .0 ∙ ap (measuresAt (c .before .before .before .before .before .before .before .before .before .before .before .before .before .before .before .before .args .rows .now)) (c .before .before .before .before .before .before .before .before .before .before .before .before .left-of .ensures)) (c .before .before .before .before .before .before .before .before .measures-at2 .ensures .0 ∙ ap (measuresAt (c .before .before .before .before .before .before .before .before .before .before .before .before .before .before .before .before .args .rows .now)) (c .before .before .before .before .before .before .before .before .before .less .ensures)))
+    ∙ ap₂ joined (c .before .before .before .before .before .before .before .before .before .before .before .measures-at .ensures .0 ∙ ap (measuresAt (a .rows .now)) (c .before .before .before .before .before .before .before .before .before .before .before .before .left-of .ensures)) (c .before .before .before .before .before .before .before .before .measures-at2 .ensures .0 ∙ ap (measuresAt (a .rows .now)) (c .before .before .before .before .before .before .before .before .before .less .ensures)))
 
 pub put-join-spec : {M : Type 1} → statement M
 put-join-spec =

@@ -1,4 +1,4 @@
-use borrow.Author.Tests.{ne-eqb, eq-eqb, lt-ltb, le-ltb, le-leb, lt-leb}
+use borrow.Author.Tests.{le-leb, lt-leb}
 use Rattle.document.specs.Sink.{putNames}
 use borrow.Author.Needs.{needs}
 use Rattle.document.proofs.sink.put_names.Statement.{statement}

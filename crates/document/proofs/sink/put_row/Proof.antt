@@ -1,4 +1,4 @@
-use borrow.Author.Tests.{ne-eqb, eq-eqb, lt-ltb, le-ltb, le-leb, lt-leb}
+use borrow.Author.Tests.{ne-eqb, eq-eqb, lt-ltb, le-ltb, lt-leb}
 use native.Mathlib.Omega.{arith}
 use lib.ListN.{length-set}
 use Rattle.document.specs.Sink.{putRow}

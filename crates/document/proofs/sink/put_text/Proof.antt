@@ -1,4 +1,4 @@
-use mathlib.Core.Path.{_≡_, refl, sym, ap, ap₂, _∙_}
+use mathlib.Core.Path.{ap, _∙_}
 use Rattle.document.specs.Sink.{endText, putText}
 use borrow.Author.Needs.{needs}
 use Rattle.document.proofs.sink.put_text.Statement.{statement}

@@ -1,4 +1,4 @@
-use mathlib.Core.Path.{_≡_, refl, sym, ap, ap₂, _∙_}
+use mathlib.Core.Path.{ap, _∙_}
 use Rattle.document.specs.declared.measures.Measures.{Measures}
 use Rattle.document.specs.Sink.{putRow}
 use Rattle.document.specs.Sink.State.{state}
@@ -29,9 +29,10 @@ same-length-2 c = search needs
 returns : tie.Need-returns
 unfolding putWrapped
 returns c =
+    let a = c .before .before .before .before .before .before .before .before .before .before .before .before .before .args in
     c .before .before .before .before .put-row .ensures
-    ∙ ap (λ (m : Measures). putRow (c .before .before .before .before .before .before .before .before .before .before .before .before .before .args .kind) (c .before .before .before .before .before .before .before .before .before .before .before .before .before .args .a) 0 m (state (c .before .before .before .before .before .before .before .before .before .before .before .before .before .args .rows .now) (c .before .before .before .before .before .before .before .before .before .before .before .before .before .args .text .now) (c .before .before .before .before .before .before .before .before .before .before .before .before .before .args .s)))
-    (c .before .before .before .before .before .before .before .wrapped .ensures ∙ ap wrapped (c .before .before .before .before .before .before .before .before .measures-at .ensures .0 ∙ ap (measuresAt (c .before .before .before .before .before .before .before .before .before .before .before .before .before .args .rows .now)) (c .before .before .before .before .before .before .before .before .before .less .ensures)))
+    ∙ ap (λ (m : Measures). putRow (a .kind) (a .a) 0 m (state (a .rows .now) (a .text .now) (a .s)))
+    (c .before .before .before .before .before .before .before .wrapped .ensures ∙ ap wrapped (c .before .before .before .before .before .before .before .before .measures-at .ensures .0 ∙ ap (measuresAt (a .rows .now)) (c .before .before .before .before .before .before .before .before .before .less .ensures)))
 
 pub put-wrapped-spec : {M : Type 1} → statement M
 put-wrapped-spec =

@@ -1,4 +1,4 @@
-use borrow.Author.Tests.{ne-eqb, eq-eqb, lt-ltb, le-ltb, le-leb, lt-leb}
+use borrow.Author.Tests.{ne-eqb, eq-eqb}
 use Rattle.document.specs.Sink.{refuse}
 use borrow.Author.Needs.{needs}
 use Rattle.document.proofs.sink.refuse.Statement.{statement}

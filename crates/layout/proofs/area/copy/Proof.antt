@@ -1,10 +1,8 @@
 -- `copy`: next i turns the first i bytes are painted.
-use Prim.Native.Nat.{ℕ, _≤_, _+_, _-_}
+use Prim.Native.Nat.{_-_}
 use native.Mathlib.Omega.{arith}
-use native.Mathlib.Numerals.{add-one}
-use mathlib.Core.Path.{_≡_, refl, sym, ap, _∙_}
+use mathlib.Core.Path.{_≡_, refl, sym}
 use lib.ListN.{length, take, length-set}
-use lib.Seq.{take-all}
 use borrow.Author.Tests.{ltb-true, ltb-false}
 use Rattle.layout.specs.Paint.{paint}
 use Rattle.layout.proofs.Painting.{paint-nil, copy-turn, copy-full, copy-whole}

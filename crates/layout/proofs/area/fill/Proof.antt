@@ -1,10 +1,8 @@
 -- `fill`: next i turns the first i bytes are painted.
-use Prim.Native.Nat.{ℕ, _≤_, _+_, _-_}
+use Prim.Native.Nat.{_-_}
 use native.Mathlib.Omega.{arith}
-use native.Mathlib.Numerals.{add-one}
-use mathlib.Core.Path.{_≡_, refl, sym, ap, _∙_}
+use mathlib.Core.Path.{_≡_, refl, sym}
 use lib.ListN.{length, take, replicate, length-set}
-use lib.Seq.{take-all}
 use borrow.Author.Tests.{ltb-true, ltb-false}
 use Rattle.layout.specs.Paint.{paint}
 use Rattle.layout.proofs.Painting.{paint-nil, fill-turn, copy-full, fill-whole}
@@ -31,8 +29,9 @@ loop-less c = omega (arith, ltb-true)
 
 loop-again : tie.Need-loop-again Inv-loop μ-loop
 loop-again c =
+    let a = c .before .before .before .args in
     let L = c .before .before .loop in
-    (fill-turn _ _ (c .before .before .before .args .n) (c .before .before .before .args .b) _ (L .inv .0) (L .inv .1) (c .before .loop-test .taken) (ltb-true _ _ (c .if1 .taken)), simp length-set (L .inv .1))
+    (fill-turn _ _ (a .n) (a .b) _ (L .inv .0) (L .inv .1) (c .before .loop-test .taken) (ltb-true _ _ (c .if1 .taken)), simp length-set (L .inv .1))
 
 same-length : tie.Need-same-length Inv-loop μ-loop
 same-length c = omega arith

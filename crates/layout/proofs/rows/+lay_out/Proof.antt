@@ -51,7 +51,9 @@ lay-out-same-length : (t : ℕ) → lay-out-lts.Need-same-length (calls t) (lay-
 lay-out-same-length t c = c .before .before .lay-text .kept .1 .1 .1 .1 .1 .0 ∙ c .before .before .before .before .before .before .loop .inv .same
 
 lay-out-returns : (t : ℕ) → lay-out-lts.Need-returns (calls t) (lay-out-at t) lay-out.Post Going-loop μ-loop
-lay-out-returns t c = c .before .before .before .before .before .before .loop .inv .back _ _ (laid-text (c .before .before .before .before .before .before .loop .inv .room) _ _ _ _ (sym (c .before .before .before .before .before .word-at .ensures .0) ∙ c .before .before .before .before .if1 .taken) (c .before .before .lay-text .ensures))
+lay-out-returns t c =
+    let l = c .before .before .before .before .before .before .loop in
+    l .inv .back _ _ (laid-text (l .inv .room) _ _ _ _ (sym (c .before .before .before .before .before .word-at .ensures .0) ∙ c .before .before .before .before .if1 .taken) (c .before .before .lay-text .ensures))
 
 lay-out-lay-break-requires : (t : ℕ) → lay-out-lts.Need-lay-break-requires (calls t) (lay-out-at t) lay-out.Post Going-loop μ-loop
 lay-out-lay-break-requires t c κs = break-asks (c .before .before .before .before .loop .inv .room) (sym (c .before .before .before .word-at .ensures .0) ∙ c .before .if2 .taken)
@@ -60,7 +62,9 @@ lay-out-same-length-2 : (t : ℕ) → lay-out-lts.Need-same-length-2 (calls t) (
 lay-out-same-length-2 t c = c .before .before .lay-break .kept .1 .1 .1 .1 .1 .1 .0 ∙ c .before .before .before .before .before .before .before .loop .inv .same
 
 lay-out-returns-2 : (t : ℕ) → lay-out-lts.Need-returns-2 (calls t) (lay-out-at t) lay-out.Post Going-loop μ-loop
-lay-out-returns-2 t c = c .before .before .before .before .before .before .before .loop .inv .back _ _ (laid-break (c .before .before .before .before .before .before .before .loop .inv .room) _ _ _ _ (sym (c .before .before .before .before .before .before .word-at .ensures .0) ∙ c .before .before .before .before .if2 .taken) (c .before .before .lay-break .ensures))
+lay-out-returns-2 t c =
+    let l = c .before .before .before .before .before .before .before .loop in
+    l .inv .back _ _ (laid-break (l .inv .room) _ _ _ _ (sym (c .before .before .before .before .before .before .word-at .ensures .0) ∙ c .before .before .before .before .if2 .taken) (c .before .before .lay-break .ensures))
 
 lay-out-left-of-requires : (t : ℕ) → lay-out-lts.Need-left-of-requires (calls t) (lay-out-at t) lay-out.Post Going-loop μ-loop
 lay-out-left-of-requires t c κs = tt
@@ -70,12 +74,13 @@ lay-out-next-of-left-requires t c κs = next-asks (c .before .before .before .be
 
 lay-out-lay-out-requires : (t : ℕ) → lay-out-lts.Need-lay-out-requires (calls t) (lay-out-at t) lay-out.Post Going-loop μ-loop
 lay-out-lay-out-requires t c κs =
+    let l = c .before .before .before .before .before .before .before .loop in
     let e = (sym (c .before .before .before .before .before .before .word-at .ensures .0) ∙ c .before .before .before .if3 .taken) in
-    let p = next-asks (c .before .before .before .before .before .before .before .loop .inv .room) e .0 in
+    let p = next-asks (l .inv .room) e .0 in
     let i = c .before .before .left-of .ensures in
-    let d = c .before .before .before .before .before .before .before .loop .inv .down in
+    let d = l .inv .down in
     let m = c .before .before .before .before .before .before .before .before .before .before .before .pre .0 in
-    (omega arith, room-left (c .before .before .before .before .before .before .before .loop .inv .room) _ _ e i (c .before .next-of-left .ensures .1))
+    (omega arith, room-left (l .inv .room) _ _ e i (c .before .next-of-left .ensures .1))
 
 lay-out-sub-r : (t : ℕ) → lay-out-lts.Need-sub-r (calls t) (lay-out-at t) lay-out.Post Going-loop μ-loop
 lay-out-sub-r t c = next-asks (c .before .before .before .before .before .before .before .before .before .before .loop .inv .room) (sym (c .before .before .before .before .before .before .before .before .before .word-at .ensures .0) ∙ c .before .before .before .before .before .before .if3 .taken) .0
@@ -85,7 +90,8 @@ lay-out-loop-less t c = let p = next-asks (c .before .before .before .before .be
 
 lay-out-loop-again : (t : ℕ) → lay-out-lts.Need-loop-again (calls t) (lay-out-at t) lay-out.Post Going-loop μ-loop
 lay-out-loop-again t c =
-    going-join (c .before .before .before .before .before .before .before .before .before .before .loop .inv) _ _ _ _ (sym (c .before .before .before .before .before .before .before .before .before .word-at .ensures .0) ∙ c .before .before .before .before .before .before .if3 .taken) (c .before .before .before .before .before .left-of .ensures) (c .before .before .before .before .next-of-left .ensures .0) (c .before .before .lay-out .kept .1 .1 .1 .1 .1 .1 .1 .1 .0) (c .before .before .lay-out .ensures)
+    let lay-out = c .before .before .lay-out in
+    going-join (c .before .before .before .before .before .before .before .before .before .before .loop .inv) _ _ _ _ (sym (c .before .before .before .before .before .before .before .before .before .word-at .ensures .0) ∙ c .before .before .before .before .before .before .if3 .taken) (c .before .before .before .before .before .left-of .ensures) (c .before .before .before .before .next-of-left .ensures .0) (lay-out .kept .1 .1 .1 .1 .1 .1 .1 .1 .0) (lay-out .ensures)
 
 lay-out-word-at-requires-2 : (t : ℕ) → lay-out-lts.Need-word-at-requires-2 (calls t) (lay-out-at t) lay-out.Post Going-loop μ-loop
 lay-out-word-at-requires-2 t c κs = omega arith
@@ -132,9 +138,10 @@ lay-out-add-flat t c =
 
 lay-out-add-flat-2 : (t : ℕ) → lay-out-lts.Need-add-flat-2 (calls t) (lay-out-at t) lay-out.Post Going-loop μ-loop
 lay-out-add-flat-2 t c =
+    let l = c .before .before .before .before .before .before .before .before .loop in
     let z = c .before .word-at3 .ensures .1 in
-    let p = c .before .before .before .before .before .before .before .before .loop .inv .room .position-room in
-    let n = c .before .before .before .before .before .before .before .before .loop .inv .room .next-room in
+    let p = l .inv .room .position-room in
+    let n = l .inv .room .next-room in
     omega arith
 
 lay-out-tested-requires : (t : ℕ) → lay-out-lts.Need-tested-requires (calls t) (lay-out-at t) lay-out.Post Going-loop μ-loop
@@ -153,8 +160,9 @@ lay-out-loop-less-4 t c =
 
 lay-out-loop-again-4 : (t : ℕ) → lay-out-lts.Need-loop-again-4 (calls t) (lay-out-at t) lay-out.Post Going-loop μ-loop
 lay-out-loop-again-4 t c =
+    let word-at3 = c .before .before .before .word-at3 in
     let k = kind-rest _ (c .before .before .before .before .before .before .before .before .if1 .left) (c .before .before .before .before .before .before .if3 .left) (c .before .before .before .before .before .before .before .if2 .left) (c .before .before .before .before .before .if4 .left) in
-    going-group (c .before .before .before .before .before .before .before .before .before .before .loop .inv) (k .0) (c .before .before .before .word-at3 .result) _ _ (sym (c .before .before .before .before .before .before .before .before .before .word-at .ensures .0) ∙ k .1) (c .before .before .before .before .if5 .left) (c .before .before .before .word-at3 .ensures .0) refl (c .tested .ensures)
+    going-group (c .before .before .before .before .before .before .before .before .before .before .loop .inv) (k .0) (word-at3 .result) _ _ (sym (c .before .before .before .before .before .before .before .before .before .word-at .ensures .0) ∙ k .1) (c .before .before .before .before .if5 .left) (word-at3 .ensures .0) refl (c .tested .ensures)
 
 pub +lay-out-spec : {M : Type 1} → statement M
 +lay-out-spec = close μ-lay-out λ t. lay-out-lts.spec (calls t)

@@ -1,15 +1,18 @@
-use borrow.Author.Needs.{needs}
 use Prim.Native.Nat.{ℕ, _+_}
 use mathlib.Core.List.{List, _∷_, []}
-use lib.ListN.{replicate}
 use mathlib.Core.Path.{ap, _∙_}
+use lib.ListN.{replicate}
 use Rattle.layout.specs.Paint.{paint}
 use Rattle.layout.proofs.Painting.{paint-append}
+use borrow.Author.Needs.{needs}
 use Rattle.layout.proofs.cursor.Cursor.newline.Statement.{statement}
 use Rattle.layout.proofs.cursor.Cursor.newline.Tie as tie
 
 add-next : tie.Need-add-next
 add-next c = search needs
+
+add-last : tie.Need-add-last
+add-last c = search needs
 
 fill-at-requires : tie.Need-fill-at-requires
 fill-at-requires c κs = search needs
@@ -17,11 +20,8 @@ fill-at-requires c κs = search needs
 fill-at-requires-2 : tie.Need-fill-at-requires-2
 fill-at-requires-2 c κs = search needs
 
-add-moved : tie.Need-add-moved
-add-moved c = search needs
-
-add-moved-2 : tie.Need-add-moved-2
-add-moved-2 c = search needs
+add-t14 : tie.Need-add-t14
+add-t14 c = search needs
 
 moved-requires : tie.Need-moved-requires
 moved-requires c κs = search needs
@@ -34,7 +34,10 @@ returns c =
     let s = c .before .before .before .before .before .before .before .before .before .before .args in
     record {
       cursor = c .moved .ensures;
-      bytes = c .before .before .before .fill-at2 .ensures ∙ ap (λ (l : List ℕ). paint l (s .self .position + 1) (replicate (s .nest) 32)) (c .before .before .before .before .before .before .before .fill-at .ensures) ∙ paint-append (s .listing .now) (s .self .position) (10 ∷ []) (replicate (s .nest) 32);
+      bytes =
+          c .before .before .before .fill-at2 .ensures
+          ∙ ap (λ (l : List ℕ). paint l (s .self .position + 1) (replicate (s .nest) 32)) (c .before .before .before .before .before .before .before .fill-at .ensures)
+          ∙ paint-append (s .listing .now) (s .self .position) (10 ∷ []) (replicate (s .nest) 32);
     }
 
 pub newline-spec : {M : Type 1} → statement M
@@ -42,10 +45,10 @@ newline-spec =
     tie.close
     (tie.spec
     add-next
+    add-last
     fill-at-requires
     fill-at-requires-2
-    add-moved
-    add-moved-2
+    add-t14
     moved-requires
     same-length
     returns)

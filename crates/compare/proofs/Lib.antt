@@ -1,0 +1,6 @@
+pub mod SeenLaws
+pub mod PartLaws
+pub mod SearchLaws
+pub mod NameLaws
+pub mod LevelLaws
+pub mod EqualLaws

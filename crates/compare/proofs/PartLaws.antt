@@ -1,0 +1,135 @@
+-- Laws of the parts of a row: they are lower, and what holds of a row's tree holds of its parts.
+use Prim.Native.Nat.{ℕ, zero, suc, _+_, _-_, _<_, _≤_, max}
+use native.Mathlib.Omega.{arith}
+use native.Mathlib.Numerals.{add-one}
+use mathlib.Core.Bool.{Bool, true, false, _&&_, _||_, cond}
+use mathlib.Core.List.{List, [], _∷_}
+use mathlib.Core.Path.{_≡_, refl, sym, ap, ap₂, _∙_, subst}
+use lib.Dec.{ltb, eqb}
+use borrow.Author.Tests.{ne-eqb}
+use Rattle.pool.specs.Tables.{Pool, E, exprWord}
+use Rattle.pool.specs.Tree.{Expr, var, sort, const, app, pi, lam, letᵉ, proj, nat, str, occurs, loose}
+use Rattle.pool.specs.Unfold.{exprAt}
+use Rattle.pool.specs.Sound.{Sound}
+use Rattle.pool.proofs.ExprUnfolds.{kind-small, loose-word, var-at, sort-at, const-at, app-at, pi-at, lam-at, let-at, proj-at, nat-at, str-at, app-ok, pi-ok, lam-ok, let-ok, proj-ok}
+use Rattle.compare.specs.Parts.{firstPart, secondPart, bodyPart, occursAt}
+
+-- the ten kinds, one by one
+pub ten : (P : ℕ → Type 0) → P 0 → P 1 → P 2 → P 3 → P 4 → P 5 → P 6 → P 7 → P 8 → P 9 → (k : ℕ) → k < 10 → P k
+ten P a b c d e f g h i j zero l = a
+ten P a b c d e f g h i j (suc zero) l = b
+ten P a b c d e f g h i j (suc (suc zero)) l = c
+ten P a b c d e f g h i j (suc (suc (suc zero))) l = d
+ten P a b c d e f g h i j (suc (suc (suc (suc zero)))) l = e
+ten P a b c d e f g h i j (suc (suc (suc (suc (suc zero))))) l = f
+ten P a b c d e f g h i j (suc (suc (suc (suc (suc (suc zero)))))) l = g
+ten P a b c d e f g h i j (suc (suc (suc (suc (suc (suc (suc zero))))))) l = h
+ten P a b c d e f g h i j (suc (suc (suc (suc (suc (suc (suc (suc zero)))))))) l = i
+ten P a b c d e f g h i j (suc (suc (suc (suc (suc (suc (suc (suc (suc zero))))))))) l = j
+ten P a b c d e f g h i j (suc (suc (suc (suc (suc (suc (suc (suc (suc (suc k)))))))))) l = absurd (omega arith)
+
+module _ (p : Pool) (sound : Sound p) (r : ℕ) (h : r < E (p .words)) where
+  abbrev w : ℕ → ℕ
+  w k = exprWord (p .words) r k
+
+  -- each part is a lower row
+  pub first-lower : firstPart (p .words) r (w 0) ≤ r
+  unfolding firstPart
+  first-lower =
+      ten (λ (k : ℕ). w 0 ≡ k → firstPart (p .words) r k ≤ r) (λ e. omega arith) (λ e. omega arith) (λ e. omega arith)
+      (λ e. omega (arith, app-ok p sound r h e .0)) (λ e. omega (arith, pi-ok p sound r h e .2)) (λ e. omega (arith, lam-ok p sound r h e .2))
+      (λ e. omega (arith, let-ok p sound r h e .1)) (λ e. omega (arith, proj-ok p sound r h e .2)) (λ e. omega arith) (λ e. omega arith)
+      (w 0) (kind-small p sound r h) refl
+
+  pub second-lower : secondPart (p .words) r (w 0) ≤ r
+  unfolding secondPart
+  second-lower =
+      ten (λ (k : ℕ). w 0 ≡ k → secondPart (p .words) r k ≤ r) (λ e. omega arith) (λ e. omega arith) (λ e. omega arith)
+      (λ e. omega (arith, app-ok p sound r h e .1)) (λ e. omega arith) (λ e. omega arith)
+      (λ e. omega (arith, let-ok p sound r h e .2)) (λ e. omega arith) (λ e. omega arith) (λ e. omega arith)
+      (w 0) (kind-small p sound r h) refl
+
+  pub body-lower : bodyPart (p .words) r (w 0) ≤ r
+  unfolding bodyPart
+  body-lower =
+      ten (λ (k : ℕ). w 0 ≡ k → bodyPart (p .words) r k ≤ r) (λ e. omega arith) (λ e. omega arith) (λ e. omega arith)
+      (λ e. omega arith) (λ e. omega (arith, pi-ok p sound r h e .3)) (λ e. omega (arith, lam-ok p sound r h e .3))
+      (λ e. omega (arith, let-ok p sound r h e .3)) (λ e. omega arith) (λ e. omega arith) (λ e. omega arith)
+      (w 0) (kind-small p sound r h) refl
+
+-- a variable in a part
+pub no-part : (p : Pool) (i part : ℕ) → part ≡ 0 → false ≡ occursAt p i part
+unfolding occursAt
+no-part p i part e = sym (ap (occursAt p i) e)
+
+pub a-part : (p : Pool) (i part : ℕ) → (part ≡ 0 → ⊥) → occurs i (exprAt p (part - 1)) ≡ occursAt p i part
+unfolding occursAt
+a-part p i zero n = absurd (n refl)
+a-part p i (suc r) n = let e : suc r - 1 ≡ r = omega arith in ap (λ (k : ℕ). occurs i (exprAt p k)) e
+
+at-next : (p : Pool) (i r : ℕ) → occursAt p i (r + 1) ≡ occurs i (exprAt p r)
+unfolding occursAt
+at-next p i r = ap (occursAt p i) (add-one r)
+
+or-false : (a : Bool) → a || false ≡ a
+or-false true = refl
+or-false false = refl
+
+module _ (p : Pool) (sound : Sound p) (r : ℕ) (h : r < E (p .words)) (i : ℕ) where
+  abbrev w₂ : ℕ → ℕ
+  w₂ k = exprWord (p .words) r k
+
+  -- it occurs in a row's tree where it occurs in a part
+  abbrev InParts : ℕ → Type 0
+  InParts k =
+      occurs i (exprAt p r)
+      ≡ occursAt p i (firstPart (p .words) r k) || (occursAt p i (secondPart (p .words) r k) || occursAt p (suc i) (bodyPart (p .words) r k))
+
+  in-var : (w₂ 7 ≡ suc i → ⊥) → w₂ 0 ≡ 0 → InParts 0
+  unfolding occurs occursAt firstPart secondPart bodyPart loose
+  in-var n e =
+      ap (occurs i) (var-at p sound r h e)
+      ∙ ne-eqb (w₂ 1) i (λ q. n (loose-word p sound r h ∙ ap loose (var-at p sound r h e) ∙ ap suc q))
+
+  in-sort : w₂ 0 ≡ 1 → InParts 1
+  unfolding occurs occursAt firstPart secondPart bodyPart
+  in-sort e = ap (occurs i) (sort-at p sound r h e)
+
+  in-const : w₂ 0 ≡ 2 → InParts 2
+  unfolding occurs occursAt firstPart secondPart bodyPart
+  in-const e = ap (occurs i) (const-at p sound r h e)
+
+  in-app : w₂ 0 ≡ 3 → InParts 3
+  unfolding occurs occursAt firstPart secondPart bodyPart
+  in-app e =
+      ap (occurs i) (app-at p sound r h e)
+      ∙ rw (add-one (w₂ 1), add-one (w₂ 2), or-false (occurs i (exprAt p (w₂ 2))))
+
+  in-pi : w₂ 0 ≡ 4 → InParts 4
+  unfolding occurs occursAt firstPart secondPart bodyPart
+  in-pi e = ap (occurs i) (pi-at p sound r h e) ∙ rw (add-one (w₂ 3), add-one (w₂ 4))
+
+  in-lam : w₂ 0 ≡ 5 → InParts 5
+  unfolding occurs occursAt firstPart secondPart bodyPart
+  in-lam e = ap (occurs i) (lam-at p sound r h e) ∙ rw (add-one (w₂ 3), add-one (w₂ 4))
+
+  in-let : w₂ 0 ≡ 6 → InParts 6
+  unfolding occurs occursAt firstPart secondPart bodyPart
+  in-let e = ap (occurs i) (let-at p sound r h e) ∙ rw (add-one (w₂ 2), add-one (w₂ 3), add-one (w₂ 4))
+
+  in-proj : w₂ 0 ≡ 7 → InParts 7
+  unfolding occurs occursAt firstPart secondPart bodyPart
+  in-proj e = ap (occurs i) (proj-at p sound r h e) ∙ rw (add-one (w₂ 3), or-false (occurs i (exprAt p (w₂ 3))))
+
+  in-nat : w₂ 0 ≡ 8 → InParts 8
+  unfolding occurs occursAt firstPart secondPart bodyPart
+  in-nat e = ap (occurs i) (nat-at p sound r h e)
+
+  in-str : w₂ 0 ≡ 9 → InParts 9
+  unfolding occurs occursAt firstPart secondPart bodyPart
+  in-str e = ap (occurs i) (str-at p sound r h e)
+
+  pub in-parts : (w₂ 7 ≡ suc i → ⊥) → InParts (w₂ 0)
+  in-parts n =
+      ten (λ (k : ℕ). w₂ 0 ≡ k → InParts k) (in-var n) in-sort in-const in-app in-pi in-lam in-let in-proj in-nat in-str
+      (w₂ 0) (kind-small p sound r h) refl

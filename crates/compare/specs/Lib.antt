@@ -1,0 +1,4 @@
+pub mod Seen
+pub mod Parts
+pub mod Asked
+pub mod Equal

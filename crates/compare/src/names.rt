@@ -1,0 +1,99 @@
+// Equality of strings and of names.
+use pool::tables;
+use pool::tables::Tables;
+ghost use mathlib.Core.Path.{_≡_};
+ghost use mathlib.Core.Bool.{true};
+ghost use Prim.Native.Nat.{_+_, _*_, _<_, _≤_};
+ghost use lib.ListN.{length};
+ghost use Rattle.utf8.specs.Letterlike.{sameBytes};
+ghost use Rattle.pool.specs.Areas.{over, NamesOf};
+ghost use Rattle.pool.specs.Tables.{N, stringWord, nameWord};
+ghost use Rattle.pool.specs.Tree.{nameShape, sameShape};
+ghost use Rattle.pool.specs.Unfold.{nameAt};
+ghost use Rattle.compare.specs.Asked.{Ready};
+ghost use Rattle.compare.specs.Equal.{stringOf, numberOf, TwoNames, endsSame};
+
+pub fn same_bytes(x: &[u8], y: &[u8]) -> bool
+    ensures { λ v. ⌜ v ≡ sameBytes (now (x .entry)) (now (y .entry)) ⌝ }
+{
+    if x.len() != y.len() {
+        return false;
+    }
+    let mut i = 0;
+    while i < x.len() {
+        if x[i] != y[i] {
+            return false;
+        }
+        i += 1;
+    }
+    true
+}
+
+// The strings of two rows.
+pub fn same_string(bytes: &[u8], names: &[u32], a: usize, b: usize) -> bool
+    requires { ⌜ (stringWord (now names) a 0 + stringWord (now names) a 1 ≤ length (now bytes)) × (stringWord (now names) b 0 + stringWord (now names) b 1 ≤ length (now bytes)) ⌝ }
+    ensures { λ v. ⌜ v ≡ sameBytes (stringOf (now (bytes .entry)) (now (names .entry)) a) (stringOf (now (bytes .entry)) (now (names .entry)) b) ⌝ }
+{
+    if a == b {
+        return true;
+    }
+    let x = tables::string_word(names, a, 0);
+    let y = tables::string_word(names, b, 0);
+    let x_end = x + tables::string_word(names, a, 1);
+    let y_end = y + tables::string_word(names, b, 1);
+    same_bytes(&bytes[x..x_end], &bytes[y..y_end])
+}
+
+fn number_of(names: &[u32], t: Tables, r: usize) -> usize
+    requires { ⌜ NamesOf (now names) t ⌝ }
+    ensures { λ v. ⌜ v ≡ numberOf (now (names .entry)) r ⌝ }
+{
+    let low = tables::name_word(names, t, r, 2);
+    let high = tables::name_word(names, t, r, 3);
+    low + high * 4294967296
+}
+
+// The last parts of two names of one kind, which is not 0.
+fn same_end(
+    bytes: &[u8],
+    names: &[u32],
+    words: &[u32],
+    t: Tables,
+    kind: usize,
+    a: usize,
+    b: usize,
+) -> bool
+    requires { ⌜ TwoNames (now bytes) (now names) (now words) t kind a b ⌝ }
+    ensures { λ v. ⌜ v ≡ endsSame (now (bytes .entry)) (now (names .entry)) kind a b ⌝ }
+{
+    if kind == 1 {
+        let x = tables::name_word(names, t, a, 2);
+        let y = tables::name_word(names, t, b, 2);
+        return same_string(bytes, names, x, y);
+    }
+    number_of(names, t, a) == number_of(names, t, b)
+}
+
+// Two names, down their prefixes.
+pub fn same_name(bytes: &[u8], names: &[u32], words: &[u32], t: Tables, a: usize, b: usize) -> bool
+    requires { ⌜ (Ready (now bytes) (now names) (now words) t) × (a < N (now names)) × (b < N (now names)) ⌝ }
+    ensures { λ v. ⌜ v ≡ sameShape (nameShape (nameAt (over (now (bytes .entry)) (now (names .entry)) (now (words .entry))) a)) (nameShape (nameAt (over (now (bytes .entry)) (now (names .entry)) (now (words .entry))) b)) ⌝ }
+{
+    let mut x = a;
+    let mut y = b;
+    while x != y {
+        let kind = tables::name_word(names, t, x, 0);
+        if kind != tables::name_word(names, t, y, 0) {
+            return false;
+        }
+        if kind == 0 {
+            return true;
+        }
+        if !same_end(bytes, names, words, t, kind, x, y) {
+            return false;
+        }
+        x = tables::name_word(names, t, x, 1);
+        y = tables::name_word(names, t, y, 1);
+    }
+    true
+}

@@ -1,0 +1,5 @@
+pub mod Emitting
+pub mod Rows
+pub mod Texts
+pub mod Universes
+pub mod WordTable

@@ -1,0 +1,47 @@
+-- The constant pieces of a document, put one after the other: what the printers of chains and lets do between two parts.
+use Prim.Native.Nat.{ℕ, zero, suc}
+use Prim.Native.String.{String}
+use mathlib.Core.Bool.{Bool, true, false, cond}
+use mathlib.Core.List.{List, [], _∷_}
+use Rattle.utf8.specs.Quoted.{bytes}
+use Rattle.document.specs.Walk.{Marked}
+use Rattle.document.specs.Sink.{State, putText, putJoin, putBreak, putNest, putGroup, emit}
+use Rattle.names.specs.Docs.{Parenable, under}
+use Rattle.pretty_printer.specs.Binders.{Binder, isArrow}
+
+-- a quoted piece, joined to what stands before it
+unfoldable pub joinPiece : String → State → State
+joinPiece s st = putJoin (putText (bytes s) st)
+
+-- a blank break, joined to what stands before it
+unfoldable pub joinLine : State → State
+joinLine st = putJoin (putBreak 1 st)
+
+-- " "+":"+|
+unfoldable pub putColon : State → State
+putColon st = joinLine (joinPiece ":" (joinPiece " " st))
+
+-- after an arrow binder's type: N(G(type))+" "+U+2192+|, all G
+unfoldable pub putArrow : ℕ → State → State
+putArrow indent st = putGroup (joinLine (joinPiece "→" (joinPiece " " (putNest indent (putGroup st)))))
+
+-- "forall"+" ", "fun"+" "
+unfoldable pub startRun : Bool → State → State
+startRun true st = joinPiece " " (putText (bytes "forall") st)
+startRun false st = joinPiece " " (putText (bytes "fun") st)
+
+-- after the binders: +",", +" "+"=>"; then N(G(..))+|
+unfoldable pub markRun : Bool → State → State
+markRun true st = joinPiece "," st
+markRun false st = joinPiece "=>" (joinPiece " " st)
+
+unfoldable pub endRun : ℕ → Bool → State → State
+endRun indent c st = joinLine (putNest indent (putGroup (markRun c (putJoin st))))
+
+-- after a group's type: G(type), joined; the bracketed part joined to the opening; the closing; N(G(..))
+unfoldable pub endGroup : ℕ → Marked → State → State
+endGroup indent closing st = putNest indent (putGroup (putJoin (emit closing (putJoin (putJoin (putGroup st))))))
+
+-- the level of a part of a chain that starts with this binder
+unfoldable pub innerOf : Binder → ℕ
+innerOf b = cond (isArrow b) 24 0

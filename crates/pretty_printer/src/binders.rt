@@ -1,0 +1,120 @@
+// The binders of a chain: which are arrows, where a run ends, and their names.
+use crate::chain::is_binder;
+use compare::occurs::has_var;
+use document::sink::Sink;
+use document::sink::put_break;
+use names::components::is_anonymous;
+use names::names::has_macro_scopes;
+use names::names::pp_name_safe;
+use names::words::UNDERSCORE;
+use names::words::put_word;
+use pool::tables::Tables;
+use pool::tables::expr_word;
+use utf8::bools::both;
+use utf8::bools::either;
+ghost use mathlib.Core.Path.{_≡_};
+ghost use mathlib.Core.Bool.{true, _&&_};
+ghost use Prim.Native.Nat.{_<_, _≤_};
+ghost use Rattle.pool.specs.Tables.{E, exprWord};
+ghost use Rattle.pool.specs.Areas.{over};
+ghost use Rattle.pool.specs.Tree.{occurs};
+ghost use Rattle.pool.specs.Unfold.{exprAt};
+ghost use Rattle.document.specs.Sink.{State, emit};
+ghost use Rattle.document.specs.Sink.State.{state};
+ghost use Rattle.pretty_printer.specs.Binders.{isArrow, binderName};
+ghost use Rattle.pretty_printer.specs.Asked.{Pooled, RunEnd};
+ghost use Rattle.pretty_printer.specs.Steps.{binderKind, isBinder, firstBinder, inRun, runLength, dropChain};
+
+// Whether the variable of the binder at row r occurs in its body.
+pub fn is_used(bytes: &[u8], names: &[u32], words: &[u32], t: Tables, r: usize) -> bool
+    requires { ⌜ (Pooled (now bytes) (now names) (now words) t) × (r < E (now words)) × (binderKind (exprWord (now words) r 0) ≡ true) ⌝ }
+    ensures { λ v. ⌜ v ≡ firstBinder (exprAt (over (now (bytes .entry)) (now (names .entry)) (now (words .entry))) r) .used ⌝ }
+{
+    has_var(bytes, names, words, t, expr_word(words, t, r, 4), 0)
+}
+
+// The binder at row r: pi, default style, and body without its variable, or anonymous, or hygienic.
+pub fn is_arrow(bytes: &[u8], names: &[u32], words: &[u32], t: Tables, r: usize) -> bool
+    requires { ⌜ (Pooled (now bytes) (now names) (now words) t) × (r < E (now words)) × (binderKind (exprWord (now words) r 0) ≡ true) ⌝ }
+    ensures { λ v. ⌜ v ≡ isArrow (firstBinder (exprAt (over (now (bytes .entry)) (now (names .entry)) (now (words .entry))) r)) ⌝ }
+{
+    if !both(
+        expr_word(words, t, r, 0) == 4,
+        expr_word(words, t, r, 2) == 0,
+    ) {
+        return false;
+    }
+    let name = expr_word(words, t, r, 1);
+    let named = either(
+        is_anonymous(bytes, names, words, t, name),
+        has_macro_scopes(bytes, names, words, t, name),
+    );
+    either(!is_used(bytes, names, words, t, r), named)
+}
+
+// Whether row r is a binder of a run: of pis that are no arrows, or of lambdas.
+pub fn in_run(bytes: &[u8], names: &[u32], words: &[u32], t: Tables, r: usize, pis: bool) -> bool
+    requires { ⌜ (Pooled (now bytes) (now names) (now words) t) × (r < E (now words)) ⌝ }
+    ensures { λ v. ⌜ v ≡ (isBinder (exprAt (over (now (bytes .entry)) (now (names .entry)) (now (words .entry))) r) && inRun pis (firstBinder (exprAt (over (now (bytes .entry)) (now (names .entry)) (now (words .entry))) r))) ⌝ }
+{
+    let kind = expr_word(words, t, r, 0);
+    if !is_binder(kind) {
+        return false;
+    }
+    if pis {
+        return both(kind == 4, !is_arrow(bytes, names, words, t, r));
+    }
+    kind != 4
+}
+
+// A row of a chain, and how many binders come before it.
+pub struct Reached {
+    pub row: usize,
+    pub count: usize,
+}
+
+// Where the run of pis or lambdas that starts at row r ends.
+pub fn run_end(
+    bytes: &[u8],
+    names: &[u32],
+    words: &[u32],
+    t: Tables,
+    r: usize,
+    pis: bool,
+) -> Reached
+    requires { ⌜ (Pooled (now bytes) (now names) (now words) t) × (r < E (now words)) ⌝ }
+    ensures { λ v. ⌜ RunEnd (over (now (bytes .entry)) (now (names .entry)) (now (words .entry))) pis r (v .row) (v .count) ⌝ }
+{
+    let mut at = r;
+    let mut n: usize = 0;
+    while in_run(bytes, names, words, t, at, pis) {
+        n = n + 1;
+        at = expr_word(words, t, at, 4);
+    }
+    Reached { row: at, count: n }
+}
+
+// A binder's name; "_" if it is anonymous and its variable does not occur.
+pub fn pp_binder_name(
+    bytes: &[u8],
+    names: &[u32],
+    words: &[u32],
+    t: Tables,
+    rows: &mut [u32],
+    text: &mut [u8],
+    s: Sink,
+    r: usize,
+) -> Sink
+    requires { ⌜ (Pooled (now bytes) (now names) (now words) t) × (r < E (now words)) × (binderKind (exprWord (now words) r 0) ≡ true) ⌝ }
+    ensures { λ v. ⌜ state (now (rows .exit)) (now (text .exit)) v ≡ emit (binderName (firstBinder (exprAt (over (now (bytes .entry)) (now (names .entry)) (now (words .entry))) r))) (state (now (rows .entry)) (now (text .entry)) s) ⌝ }
+{
+    let name = expr_word(words, t, r, 1);
+    let hidden = both(
+        is_anonymous(bytes, names, words, t, name),
+        !is_used(bytes, names, words, t, r),
+    );
+    if hidden {
+        return put_word(rows, text, s, UNDERSCORE);
+    }
+    pp_name_safe(bytes, names, words, t, rows, text, s, name)
+}
