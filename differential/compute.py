@@ -1,9 +1,11 @@
 """Writes recorded prints as terms of antt, so that the definitions of specs/ compute them: `compute.py` writes
 ../crates/computed/specs/Part*.antt from corpus/prints.bin. A check of that crate then shows that the definitions give the
-Rust's document rows, texts and listing, with 01's counts, in areas a little longer than needed."""
+Rust's document rows, texts and listing, with 01's counts, in areas a little longer than needed; and, against model.py, what
+is refused in areas that are too short."""
 import os
 import sys
 
+import model
 import record
 
 HERE = os.path.dirname(os.path.abspath(__file__))
@@ -46,6 +48,34 @@ print%d = refl
        quoted(p.listing), n)
 
 
+CASES = {7: "Names %d", 8: "Document %d", 20: "RowArea %d", 21: "TextArea %d", 22: "Listing"}
+
+
+def short_lengths(p):
+    """Areas that are too short in one way each: no room, one word or byte less than needed, half of it."""
+    rows, text, listing = 7 * len(p.rows), len(p.text), len(p.listing)
+    return [(rows - 1, text, listing), (rows, text - 1, listing), (rows, text, listing - 1), (rows // 2, text, listing),
+            (rows, text // 2, listing), (rows // 2, text // 2, listing), (rows, text, 0), (0, 0, 0)]
+
+
+def short_term(n, r, p, lengths):
+    """A print into areas that are too short: the refusal and what the areas hold, from model.py."""
+    pool = model.Pool(bytes(r.area), list(r.words))
+    assert pool.fault == (0, 0)
+    call = (model.print_expression, model.print_declaration)[p.mode]
+    a = call(pool, p.root, p.indent, p.width, model.areas(*lengths, fill=7))
+    case = CASES[a.number]
+    return """-- %s %d, indent %d, width %d: refused %d at %d
+pub refusal%d :
+    %s (%s) (%s) %d %d %d (filled %d %d %d)
+    ≡ left (%s) (%s) (%s) (%s)
+unfolding computing numbers filled left
+refusal%d = refl
+""" % (("expression", "declaration")[p.mode], p.root, p.indent, p.width, a.number, a.place, n, ("printExpr", "printDeclar")[p.mode],
+       numbers(r.area), numbers(r.words), p.root, p.indent, p.width, *lengths, case % a.place if "%" in case else case,
+       numbers(a.areas.rows), numbers(a.areas.text), numbers(a.areas.listing), n)
+
+
 HEADER = """-- Recorded prints %d to %d, computed by the definitions. Written by differential/compute.py.
 use mathlib.Core.List.{List, [], _∷_}
 use mathlib.Core.Path.{_≡_, refl}
@@ -58,6 +88,17 @@ use Rattle.computed.specs.Areas.{numbers, lent, done}
 """
 
 
+def write_refusals(picked):
+    """Eight kinds of short areas, each for a few of the smaller prints that are not trivial."""
+    prints = [(r, p) for r, p in picked if 12 <= len(p.rows) <= 24 and len(r.words) <= 160][:3]
+    terms = [(r, p, lengths) for r, p in prints for lengths in short_lengths(p)]
+    with open(os.path.join(OUT, "Refusals.antt"), "w") as f:
+        f.write(HEADER.replace("Recorded prints %d to %d, computed by the definitions.", "Prints into short areas, as model.py has them, computed by the definitions.")
+                .replace("{Done}", "{Names, Document, RowArea, TextArea, Listing}").replace("{numbers, lent, done}", "{numbers, filled, left}"))
+        f.write("\n".join(short_term(n, *t) for n, t in enumerate(terms)))
+    return len(terms)
+
+
 def main():
     picked = chosen(record.read())
     for old in os.listdir(OUT):
@@ -68,9 +109,10 @@ def main():
         terms = [term(k * PER_FILE + i, r, p) for i, (r, p) in enumerate(part)]
         with open(os.path.join(OUT, "Part%d.antt" % k), "w") as f:
             f.write(HEADER % (k * PER_FILE, k * PER_FILE + len(part) - 1) + "\n".join(terms))
+    refusals = write_refusals(picked)
     with open(os.path.join(OUT, "Lib.antt"), "w") as f:
-        f.write("pub mod Areas\n" + "".join("pub mod Part%d\n" % k for k in range(len(parts))))
-    print("%d prints in %d files" % (len(picked), len(parts)))
+        f.write("pub mod Areas\n" + "".join("pub mod Part%d\n" % k for k in range(len(parts))) + "pub mod Refusals\n")
+    print("%d prints in %d files, %d refusals" % (len(picked), len(parts), refusals))
 
 
 if __name__ == "__main__":

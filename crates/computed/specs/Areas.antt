@@ -33,3 +33,11 @@ done answer rows text listing =
       answer = answer;
       areas = record { rows = rows ++ (0 ∷ 0 ∷ 0 ∷ []); text = text ++ (0 ∷ 0 ∷ 0 ∷ []); listing = listing ++ (7 ∷ 7 ∷ 7 ∷ []) };
     }
+
+-- areas of so many words and bytes, all filled with 7
+unfoldable pub filled : ℕ → ℕ → ℕ → Areas
+filled rows text listing = record { rows = replicate rows 7; text = replicate text 7; listing = replicate listing 7 }
+
+-- an answer, and what the areas hold
+unfoldable pub left : Answer → List ℕ → List ℕ → List ℕ → Outcome
+left answer rows text listing = record { answer = answer; areas = record { rows = rows; text = text; listing = listing } }

@@ -11,3 +11,4 @@ pub mod Part8
 pub mod Part9
 pub mod Part10
 pub mod Part11
+pub mod Refusals

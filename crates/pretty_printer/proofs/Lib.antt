@@ -12,3 +12,5 @@ pub mod LoopLaws
 pub mod BinderLaws
 pub mod RunningLaws
 pub mod FineLaws
+pub mod NamingLaws
+pub mod GroupingLaws

@@ -8,6 +8,7 @@ use mathlib.Core.List.{List, [], _∷_}
 use mathlib.Core.Path.{_≡_, refl, sym, ap, ap₂, _∙_}
 use lib.ListN.{length, getD, set, length-set}
 use lib.Seq.{getD-set-same, getD-set-other}
+use Rattle.document.specs.Sink.{State, emit}
 use Rattle.pool.specs.Tables.{Pool, N}
 use Rattle.pool.specs.Tree.{Name, Expr, var, sort, const, app, pi, lam, letᵉ, proj, nat, str, lift, occurs}
 use Rattle.pool.specs.Unfold.{nameAt}
@@ -18,7 +19,7 @@ use Rattle.names.specs.Names.{nameDoc}
 use Rattle.pretty_printer.specs.Binders.{Binder, binders, chainBody, pushed}
 use Rattle.pretty_printer.specs.Exprs.{varDoc}
 use Rattle.pretty_printer.specs.Rename.{up, rename}
-use Rattle.pretty_printer.specs.Scopes.{entry, namesBelow, namesOf, outward, placeBy, placeIn, Linked, Held, Grown, push, scoped, lastScope, Chained}
+use Rattle.pretty_printer.specs.Scopes.{entry, namesBelow, namesOf, outward, placeBy, placeIn, Linked, Held, Grown, Reached, push, scoped, lastScope, Chained}
 use Rattle.pretty_printer.proofs.RenameLaws.{rename-agrees, lift-adds, own-variable}
 
 -- how many names a chain puts on the stack
@@ -249,3 +250,25 @@ pub link-within : (k : Stack) → Linked k → (h : ℕ) → (h ≡ 0 → ⊥) �
 link-within k w zero n b = absurd (n refl)
 link-within k w (suc h) n b =
     let e : suc h - 1 ≡ h = omega arith in rw e (omega (arith, w .below h b))
+
+-- what a variable prints, once its scope was reached
+pub prints-past : (p : Pool) (k : Stack) (h i scope left n : ℕ) (st : State) → Reached k h i scope left → scope ≡ 0 → n ≡ k .count + left →
+    emit (number n) st ≡ emit (varDoc (namesOf p k) (placeIn k h i) (placeIn k h i)) st
+unfolding namesOf
+prints-past p k h i scope left n st r z e =
+    let place : placeIn k h i ≡ k .count + left = r .place ∙ ap (λ (x : ℕ). placeIn k x left) z ∙ place-past k left in
+    rw (place, past-names p k (k .count) left (k .count + left), e)
+
+pub prints-name : (p : Pool) (k : Stack) (h i scope left : ℕ) (st : State) → Reached k h i scope left → (scope ≡ 0 → ⊥) →
+    emit (nameDoc (nameAt p (entry k (scope - 1) .name))) st ≡ emit (varDoc (namesOf p k) (placeIn k h i) (placeIn k h i)) st
+unfolding namesOf
+prints-name p k h i zero left st r n = absurd (n refl)
+prints-name p k h i (suc scope) left st r n =
+    let none : left ≡ 0 = r .ended n in
+    let place : placeIn k h i ≡ k .count - suc scope = r .place ∙ ap (placeIn k (suc scope)) none ∙ place-here k scope in
+    let back : suc scope - 1 ≡ scope = omega arith in
+    rw (back, place, among-names p k (k .count) scope (k .count - suc scope) (r .within))
+
+pub entry-named : (p : Pool) (k : Stack) → Held p k → (scope : ℕ) → (scope ≡ 0 → ⊥) → scope ≤ k .count → entry k (scope - 1) .name < N (p .names)
+entry-named p k held zero n b = absurd (n refl)
+entry-named p k held (suc scope) n b = let e : suc scope - 1 ≡ scope = omega arith in rw e (held .named scope b)

@@ -64,6 +64,7 @@ pub record Grown (k l : Stack) : Type 0 where
 pub record Reached (k : Stack) (h i scope left : ℕ) : Type 0 where
   pub place : placeIn k h i ≡ placeIn k scope left
   pub within : scope ≤ k .count
+  pub fewer : left ≤ i
   pub ended : (scope ≡ 0 → ⊥) → left ≡ 0
 
 -- The binders of a chain whose names are on the stack: the first one's entry is m, and its type is in the scope h.
