@@ -109,7 +109,7 @@ unfoldable pub whole : List ℕ → ℕ → ℕ → Bool
 whole rows total count = eqb (word rows (count - 1) 3) count && eqb (textBefore rows count) total
 
 -- "the first faulty row", or `count` if there is none. Where each row by itself keeps the rules and the whole-document rule is
--- broken, the last row is faulty (READINGS, A10).
+-- broken, the last row is faulty (docs/DECISIONS.md, A10).
 unfoldable pub fault : List ℕ → ℕ → ℕ → ℕ
 fault rows total count =
     cond (ltb (scan rows total count 0) count) (scan rows total count 0) (cond (whole rows total count) count (count - 1))
