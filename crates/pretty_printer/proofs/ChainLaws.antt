@@ -42,28 +42,6 @@ module _ {A : Type 0} where
       by true e = e
       by false e = refl
 
-  -- a leading run of a leading run is a leading run of both tests
-  pub leading-twice : (q r : A → Bool) (xs : List A) → leading q (leading r xs) ≡ leading (λ x. r x && q x) xs
-  unfolding leading
-  leading-twice q r [] = refl
-  leading-twice q r (x ∷ xs) = by (r x) (leading-twice q r xs)
-    where
-      by : (b : Bool) → leading q (leading r xs) ≡ leading (λ y. r y && q y) xs → leading q (cond b (x ∷ leading r xs) []) ≡ cond (b && q x) (x ∷ leading (λ y. r y && q y) xs) []
-      by true e = rw e
-      by false e = refl
-
-  -- what follows the inner run, within the outer one, is the outer run of what is left
-  pub following-within : (q r : A → Bool) (xs : List A) → following q (leading r xs) ≡ leading r (drop (length (leading (λ x. r x && q x) xs)) xs)
-  unfolding leading following
-  following-within q r [] = refl
-  following-within q r (x ∷ xs) = by (r x) (q x) refl refl (following-within q r xs)
-    where
-      by : (b d : Bool) → r x ≡ b → q x ≡ d → following q (leading r xs) ≡ leading r (drop (length (leading (λ y. r y && q y) xs)) xs) →
-          following q (cond b (x ∷ leading r xs) []) ≡ leading r (drop (length (cond (b && d) (x ∷ leading (λ y. r y && q y) xs) [])) (x ∷ xs))
-      by true true f g e = rw g e
-      by true false f g e = rw (g, f)
-      by false d f g e = rw f
-
 -- ---- the chain on the stack
 
 count-step : (v : Bool) (x : Binder) (l : List Binder) (n : ℕ) → length l ≡ n → length (cond v (x ∷ l) []) ≡ cond v (suc n) 0
@@ -173,7 +151,7 @@ module _ (σ : ℕ → ℕ) (rises : (i : ℕ) → σ i < σ (suc i)) where
       back-again e = shows (rename σ a) (rename σ b) (rename-forgets σ a ∙ ap (rename σ) (tells a b e) ∙ sym (rename-forgets σ b))
 
 -- the binders after a group's first, on the stack, that belong to the group
-module _ (p : Pool) (k : Stack) (linked : Linked k) (c i₀ u₀ : Bool) (n₀ : Name) (style : ℕ) (t : Expr) (q₀ h₀ : ℕ) where
+module _ (p : Pool) (k : Stack) (linked : Linked k) (i₀ u₀ : Bool) (n₀ : Name) (style : ℕ) (t : Expr) (q₀ h₀ : ℕ) where
   type-same : (h j : ℕ) (u : Expr) → h ≤ k .count → ((i : ℕ) → placeIn k h (i + j) ≡ placeIn k h₀ i) →
       same (rename (placeIn k h₀) t) (rename (placeIn k h) u) ≡ same (lift j 0 t) u
   type-same h j u b f =
@@ -186,30 +164,40 @@ module _ (p : Pool) (k : Stack) (linked : Linked k) (c i₀ u₀ : Bool) (n₀ :
   firstOn = record { isPi = i₀; used = u₀; name = n₀; style = style; type = rename (placeIn k h₀) t; place = q₀ }
 
   pub group-length :
-      (j h m : ℕ) (e : Expr) → Chained p k h m e → h ≤ k .count → ((i : ℕ) → placeIn k h (i + j) ≡ placeIn k h₀ i) →
-      length (leading (λ b. inRun c b && sameGroup firstOn b) (scoped k h m e)) ≡ groupLength c style t j e
+      (n j h m : ℕ) (e : Expr) → Chained p k h m e → h ≤ k .count → ((i : ℕ) → placeIn k h (i + j) ≡ placeIn k h₀ i) →
+      length (leading (sameGroup firstOn) (take n (scoped k h m e))) ≡ groupLength n style t j e
   unfolding scoped leading groupLength inGroup firstBinder sameGroup Chained
-  group-length j h m (var i) ch b₀ f = refl
-  group-length j h m (sort l) ch b₀ f = refl
-  group-length j h m (const n ls) ch b₀ f = refl
-  group-length j h m (app g a) ch b₀ f = refl
-  group-length j h m (pi q n s u b) ch b₀ f =
-      let x : Binder = record { isPi = true; used = occurs 0 b; name = n; style = s; type = rename (placeIn k h) u; place = q } in
+  group-length zero j h m (var i) ch b₀ f = refl
+  group-length (suc n) j h m (var i) ch b₀ f = refl
+  group-length zero j h m (sort l) ch b₀ f = refl
+  group-length (suc n) j h m (sort l) ch b₀ f = refl
+  group-length zero j h m (const a ls) ch b₀ f = refl
+  group-length (suc n) j h m (const a ls) ch b₀ f = refl
+  group-length zero j h m (app g a) ch b₀ f = refl
+  group-length (suc n) j h m (app g a) ch b₀ f = refl
+  group-length zero j h m (pi q a s u b) ch b₀ f = refl
+  group-length (suc n) j h m (pi q a s u b) ch b₀ f =
+      let x : Binder = record { isPi = true; used = occurs 0 b; name = a; style = s; type = rename (placeIn k h) u; place = q } in
       let len : length (scoped k (suc m) (suc m) b) + suc m ≡ k .count = chain-length p k (suc m) (suc m) b (ch .2) in
       let next : (i : ℕ) → placeIn k (suc m) (i + suc j) ≡ placeIn k h₀ i =
       λ i. ap (placeIn k (suc m)) (add-suc i j) ∙ place-out k m (i + j) ∙ ap (λ (y : ℕ). placeIn k y (i + j)) (ch .0) ∙ f i in
-      rw (type-same h j u b₀ f, run-type c true (occurs 0 b) n s (rename (placeIn k h) u) u q)
-      (count-step (inGroup c style t j (firstBinder (pi q n s u b))) x (leading (λ y. inRun c y && sameGroup firstOn y) (scoped k (suc m) (suc m) b))
-      (groupLength c style t (suc j) b) (group-length (suc j) (suc m) (suc m) b (ch .2) (omega arith) next))
-  group-length j h m (lam q n s u b) ch b₀ f =
-      let x : Binder = record { isPi = false; used = occurs 0 b; name = n; style = s; type = rename (placeIn k h) u; place = q } in
+      rw (type-same h j u b₀ f)
+      (count-step (inGroup style t j (firstBinder (pi q a s u b))) x (leading (sameGroup firstOn) (take n (scoped k (suc m) (suc m) b)))
+      (groupLength n style t (suc j) b) (group-length n (suc j) (suc m) (suc m) b (ch .2) (omega arith) next))
+  group-length zero j h m (lam q a s u b) ch b₀ f = refl
+  group-length (suc n) j h m (lam q a s u b) ch b₀ f =
+      let x : Binder = record { isPi = false; used = occurs 0 b; name = a; style = s; type = rename (placeIn k h) u; place = q } in
       let len : length (scoped k (suc m) (suc m) b) + suc m ≡ k .count = chain-length p k (suc m) (suc m) b (ch .2) in
       let next : (i : ℕ) → placeIn k (suc m) (i + suc j) ≡ placeIn k h₀ i =
       λ i. ap (placeIn k (suc m)) (add-suc i j) ∙ place-out k m (i + j) ∙ ap (λ (y : ℕ). placeIn k y (i + j)) (ch .0) ∙ f i in
-      rw (type-same h j u b₀ f, run-type c false (occurs 0 b) n s (rename (placeIn k h) u) u q)
-      (count-step (inGroup c style t j (firstBinder (lam q n s u b))) x (leading (λ y. inRun c y && sameGroup firstOn y) (scoped k (suc m) (suc m) b))
-      (groupLength c style t (suc j) b) (group-length (suc j) (suc m) (suc m) b (ch .2) (omega arith) next))
-  group-length j h m (letᵉ q n u v b d) ch b₀ f = refl
-  group-length j h m (proj n i e) ch b₀ f = refl
-  group-length j h m (nat s) ch b₀ f = refl
-  group-length j h m (str s) ch b₀ f = refl
+      rw (type-same h j u b₀ f)
+      (count-step (inGroup style t j (firstBinder (lam q a s u b))) x (leading (sameGroup firstOn) (take n (scoped k (suc m) (suc m) b)))
+      (groupLength n style t (suc j) b) (group-length n (suc j) (suc m) (suc m) b (ch .2) (omega arith) next))
+  group-length zero j h m (letᵉ q a u v b d) ch b₀ f = refl
+  group-length (suc n) j h m (letᵉ q a u v b d) ch b₀ f = refl
+  group-length zero j h m (proj a i e) ch b₀ f = refl
+  group-length (suc n) j h m (proj a i e) ch b₀ f = refl
+  group-length zero j h m (nat s) ch b₀ f = refl
+  group-length (suc n) j h m (nat s) ch b₀ f = refl
+  group-length zero j h m (str s) ch b₀ f = refl
+  group-length (suc n) j h m (str s) ch b₀ f = refl

@@ -5,6 +5,9 @@ pub mod RenameLaws
 pub mod ScopeLaws
 pub mod ExprLaws
 pub mod ChainLaws
+pub mod DropLaws
+pub mod TelescopeLaws
+pub mod PartLaws
 pub mod EmitLaws
 pub mod WordLaws
 pub mod ViewLaws
@@ -13,4 +16,7 @@ pub mod BinderLaws
 pub mod RunningLaws
 pub mod FineLaws
 pub mod NamingLaws
+pub mod LeafLaws
+pub mod CallLaws
+pub mod RowLaws
 pub mod GroupingLaws

@@ -10,8 +10,11 @@ use Rattle.pool.specs.Tables.{Pool, N, E, exprWord}
 use Rattle.pool.specs.Tree.{Name, Expr, var, sort, const, app, pi, lam, letᵉ, proj, nat, str}
 use Rattle.pool.specs.Unfold.{nameAt, exprAt}
 use Rattle.pool.specs.Sound.{Sound}
-use Rattle.pretty_printer.specs.Steps.{binderKind, isBinder, firstBinder, inRun, runLength, dropChain, mkBinder}
-use Rattle.pretty_printer.proofs.ViewLaws.{binder-row, BinderRow, binder-at, run-made, run-none, drop-made}
+use Rattle.pretty_printer.specs.Binders.{Binder, isArrow}
+use Rattle.pretty_printer.specs.Asked.{RunEnd, PartEnd}
+use Rattle.pretty_printer.specs.Steps.{binderKind, isBinder, firstBinder, inRun, runLength, partLength, dropChain, mkBinder}
+use Rattle.pretty_printer.proofs.ViewLaws.{binder-row, BinderRow, binder-at, run-made, run-none, run-starts, drop-made}
+use Rattle.pretty_printer.proofs.BinderLaws.{first-at}
 
 pub drop-nothing : (e : Expr) → dropChain 0 e ≡ e
 unfolding dropChain
@@ -94,3 +97,29 @@ module _ (p : Pool) (sound : Sound p) (c : Bool) (r at n : ℕ) (i : Running p c
           ap (runLength c) (row .made) ∙ run-made _ _ _ _ _ _ c
           ∙ ap (λ (x : Bool). cond x (suc (runLength c (exprAt p (exprWord (p .words) at 4)))) 0)
           (ap (λ (x : Expr). inRun c (firstBinder x)) (sym (row .made)) ∙ sym (ap (λ (x : Bool). x && inRun c (firstBinder (exprAt p at))) f) ∙ sym is ∙ e)
+
+-- ---- an arrow binder, or a run of others
+
+module _ (p : Pool) (sound : Sound p) (r : ℕ) (h : r < E (p .words)) (b : binderKind (exprWord (p .words) r 0) ≡ true) (arrow : Bool) where
+  pub arrow-ends : arrow ≡ true → (next : ℕ) → next ≡ exprWord (p .words) r 4 → PartEnd p arrow r next 1
+  unfolding partLength
+  arrow-ends a next f =
+      let row = binder-at p sound r h b in
+      record {
+        length = sym (ap (λ (x : Bool). partLength x (exprAt p r)) a);
+        tree = ap (exprAt p) f ∙ sym (ap (dropChain 1) (row .made) ∙ drop-made _ _ _ _ _ _ 0 ∙ drop-nothing _);
+        low = omega (arith, row .body);
+      }
+
+  pub run-ends : arrow ≡ false → arrow ≡ isArrow (firstBinder (exprAt p r)) → (kind row count : ℕ) → kind ≡ exprWord (p .words) r 0 →
+      RunEnd p (eqb kind 4) r row count → PartEnd p arrow r row count
+  unfolding partLength
+  run-ends a is kind row count k end =
+      let pis : eqb kind 4 ≡ firstBinder (exprAt p r) .isPi = ap (λ (x : ℕ). eqb x 4) k ∙ sym (ap (λ (x : Binder). x .isPi) (first-at p sound r h b)) in
+      let length : count ≡ runLength (firstBinder (exprAt p r) .isPi) (exprAt p r) = end .length ∙ ap (λ (x : Bool). runLength x (exprAt p r)) pis in
+      let some = run-starts (exprAt p r) (sym (binder-row p sound r h) ∙ b) (sym is ∙ a) in
+      record {
+        length = length ∙ sym (ap (λ (x : Bool). partLength x (exprAt p r)) a);
+        tree = end .tree;
+        low = omega (arith, end .low, some, length);
+      }

@@ -13,7 +13,7 @@ use Rattle.pool.specs.Unfold.{nameAt, exprAt}
 use Rattle.pool.specs.Sound.{Sound}
 use Rattle.pool.proofs.ExprUnfolds.{kind-small, var-at, sort-at, const-at, app-at, pi-at, lam-at, let-at, proj-at, nat-at, str-at, pi-ok, lam-ok, depth-word, depth-small}
 use Rattle.pretty_printer.specs.declared.stack.Stack.{Stack}
-use Rattle.pretty_printer.specs.Binders.{Binder, chainBody, binderName}
+use Rattle.pretty_printer.specs.Binders.{Binder, chainBody, isArrow, isNamedPi, binderName}
 use Rattle.pretty_printer.specs.Rename.{rename}
 use Rattle.pretty_printer.specs.Scopes.{entry, placeBy, placeIn, scoped, lastScope, Chained}
 use Rattle.pretty_printer.specs.Steps.{firstBinder, inRun, runLength, inGroup, groupLength, dropChain, mkBinder, isBinder, binderKind, chainLength, nameDocs}
@@ -60,10 +60,10 @@ unfolding mkBinder runLength
 run-made true q n s t b c = refl
 run-made false q n s t b c = refl
 
-pub group-made : (i : Bool) (q : ℕ) (n : Name) (s : ℕ) (t b : Expr) (c : Bool) (style : ℕ) (type : Expr) (j : ℕ) → groupLength c style type j (mkBinder i q n s t b) ≡ cond (inGroup c style type j (firstBinder (mkBinder i q n s t b))) (suc (groupLength c style type (suc j) b)) 0
+pub group-made : (i : Bool) (q : ℕ) (a : Name) (s : ℕ) (t b : Expr) (n style : ℕ) (type : Expr) (j : ℕ) → groupLength (suc n) style type j (mkBinder i q a s t b) ≡ cond (inGroup style type j (firstBinder (mkBinder i q a s t b))) (suc (groupLength n style type (suc j) b)) 0
 unfolding mkBinder groupLength
-group-made true q n s t b c style type j = refl
-group-made false q n s t b c style type j = refl
+group-made true q a s t b n style type j = refl
+group-made false q a s t b n style type j = refl
 
 pub chained-made : (p : Pool) (k : Stack) (h m : ℕ) (i : Bool) (q : ℕ) (n : Name) (s : ℕ) (t b : Expr) →
     entry k m .link ≡ h → nameAt p (entry k m .name) ≡ n → Chained p k (suc m) (suc m) b → Chained p k h m (mkBinder i q n s t b)
@@ -147,18 +147,19 @@ run-none c (proj n i e) h₀ = refl
 run-none c (nat s) h₀ = refl
 run-none c (str s) h₀ = refl
 
-pub group-none : (c : Bool) (style : ℕ) (type : Expr) (j : ℕ) (e : Expr) → isBinder e ≡ false → groupLength c style type j e ≡ 0
-unfolding isBinder groupLength
-group-none c style type j (var i) h₀ = refl
-group-none c style type j (sort l) h₀ = refl
-group-none c style type j (const n ls) h₀ = refl
-group-none c style type j (app f a) h₀ = refl
-group-none c style type j (pi p n s t b) h₀ = no-no h₀
-group-none c style type j (lam p n s t b) h₀ = no-no h₀
-group-none c style type j (letᵉ p n t v b d) h₀ = refl
-group-none c style type j (proj n i e) h₀ = refl
-group-none c style type j (nat s) h₀ = refl
-group-none c style type j (str s) h₀ = refl
+-- among no binders
+pub group-none : (style : ℕ) (type : Expr) (j : ℕ) (e : Expr) → groupLength 0 style type j e ≡ 0
+unfolding groupLength
+group-none style type j (var i) = refl
+group-none style type j (sort l) = refl
+group-none style type j (const a ls) = refl
+group-none style type j (app f a) = refl
+group-none style type j (pi p a s t b) = refl
+group-none style type j (lam p a s t b) = refl
+group-none style type j (letᵉ p a t v b d) = refl
+group-none style type j (proj a i e) = refl
+group-none style type j (nat s) = refl
+group-none style type j (str s) = refl
 
 pub drop-none : (m : ℕ) (e : Expr) → isBinder e ≡ false → dropChain m e ≡ e
 unfolding isBinder dropChain
@@ -185,6 +186,20 @@ chained-none p₀ k h m (letᵉ p n t v b d) h₀ c = c
 chained-none p₀ k h m (proj n i e) h₀ c = c
 chained-none p₀ k h m (nat s) h₀ c = c
 chained-none p₀ k h m (str s) h₀ c = c
+
+-- a binder that is no arrow starts a run
+pub run-starts : (e : Expr) → isBinder e ≡ true → isArrow (firstBinder e) ≡ false → 1 ≤ runLength (firstBinder e .isPi) e
+unfolding isBinder firstBinder runLength inRun isNamedPi
+run-starts (var i) h₀ a₀ = no-no (sym h₀)
+run-starts (sort l) h₀ a₀ = no-no (sym h₀)
+run-starts (const n ls) h₀ a₀ = no-no (sym h₀)
+run-starts (app f a) h₀ a₀ = no-no (sym h₀)
+run-starts (pi p n s t b) h₀ a₀ = rw a₀ (omega arith)
+run-starts (lam p n s t b) h₀ a₀ = omega arith
+run-starts (letᵉ p n t v b d) h₀ a₀ = no-no (sym h₀)
+run-starts (proj n i e) h₀ a₀ = no-no (sym h₀)
+run-starts (nat s) h₀ a₀ = no-no (sym h₀)
+run-starts (str s) h₀ a₀ = no-no (sym h₀)
 
 -- ---- rows
 

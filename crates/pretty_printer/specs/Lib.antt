@@ -7,3 +7,4 @@ pub mod Scopes
 pub mod Steps
 pub mod Puts
 pub mod Asked
+pub mod Parts

@@ -7,7 +7,8 @@ use Rattle.utf8.specs.Quoted.{bytes}
 use Rattle.document.specs.Walk.{Marked}
 use Rattle.document.specs.Sink.{State, putText, putJoin, putBreak, putNest, putGroup, emit}
 use Rattle.names.specs.Docs.{Parenable, under}
-use Rattle.pretty_printer.specs.Binders.{Binder, isArrow}
+use Rattle.names.specs.Tiles.{endTile}
+use Rattle.pretty_printer.specs.Binders.{Binder, isArrow, opening, closing}
 
 -- a quoted piece, joined to what stands before it
 unfoldable pub joinPiece : String → State → State
@@ -41,6 +42,16 @@ endRun indent c st = joinLine (putNest indent (putGroup (markRun c (putJoin st))
 -- after a group's type: G(type), joined; the bracketed part joined to the opening; the closing; N(G(..))
 unfoldable pub endGroup : ℕ → Marked → State → State
 endGroup indent closing st = putNest indent (putGroup (putJoin (emit closing (putJoin (putJoin (putGroup st))))))
+
+-- before the names of a group: its opening bracket, after a break where it is a further one of a tile
+unfoldable pub openGroup : Bool → ℕ → State → State
+openGroup true style st = emit (opening style) st
+openGroup false style st = emit (opening style) (putBreak 1 st)
+
+-- after its type
+unfoldable pub closeGroup : Bool → ℕ → ℕ → State → State
+closeGroup true indent style st = endGroup indent (closing style) st
+closeGroup false indent style st = endTile (endGroup indent (closing style) st)
 
 -- the level of a part of a chain that starts with this binder
 unfoldable pub innerOf : Binder → ℕ

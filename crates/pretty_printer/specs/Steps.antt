@@ -54,23 +54,25 @@ runLength c (nat s) = 0
 runLength c (str s) = 0
 
 -- whether a binder j places after one of a style and a type, none of them lifted, belongs to that one's group
-unfoldable pub inGroup : Bool → ℕ → Expr → ℕ → Binder → Bool
-inGroup c style type j b = inRun c b && (not (eqb style 3) && (eqb style (b .style) && same (lift j 0 type) (b .type)))
+unfoldable pub inGroup : ℕ → Expr → ℕ → Binder → Bool
+inGroup style type j b = not (eqb style 3) && (eqb style (b .style) && same (lift j 0 type) (b .type))
 
--- how many binders of that group a chain starts with
-unfoldable pub groupLength : Bool → ℕ → Expr → ℕ → Expr → ℕ
-groupLength c style type j (var i) = 0
-groupLength c style type j (sort l) = 0
-groupLength c style type j (const n ls) = 0
-groupLength c style type j (app f a) = 0
-groupLength c style type j (pi p n s t b) =
-    cond (inGroup c style type j (firstBinder (pi p n s t b))) (suc (groupLength c style type (suc j) b)) 0
-groupLength c style type j (lam p n s t b) =
-    cond (inGroup c style type j (firstBinder (lam p n s t b))) (suc (groupLength c style type (suc j) b)) 0
-groupLength c style type j (letᵉ p n t v b d) = 0
-groupLength c style type j (proj n i e) = 0
-groupLength c style type j (nat s) = 0
-groupLength c style type j (str s) = 0
+-- how many binders of that group a chain starts with, among its first n
+unfoldable pub groupLength : ℕ → ℕ → Expr → ℕ → Expr → ℕ
+groupLength n style type j (var i) = 0
+groupLength n style type j (sort l) = 0
+groupLength n style type j (const a ls) = 0
+groupLength n style type j (app f a) = 0
+groupLength zero style type j (pi p a s t b) = 0
+groupLength (suc n) style type j (pi p a s t b) =
+    cond (inGroup style type j (firstBinder (pi p a s t b))) (suc (groupLength n style type (suc j) b)) 0
+groupLength zero style type j (lam p a s t b) = 0
+groupLength (suc n) style type j (lam p a s t b) =
+    cond (inGroup style type j (firstBinder (lam p a s t b))) (suc (groupLength n style type (suc j) b)) 0
+groupLength n style type j (letᵉ p a t v b d) = 0
+groupLength n style type j (proj a i e) = 0
+groupLength n style type j (nat s) = 0
+groupLength n style type j (str s) = 0
 
 -- a chain without its first n binders
 unfoldable pub dropChain : ℕ → Expr → Expr
@@ -125,3 +127,8 @@ chainLength (str s) = 0
 unfoldable pub nameDocs : ℕ → Expr → List Marked
 nameDocs zero e = []
 nameDocs (suc n) e = binderName (firstBinder e) ∷ nameDocs n (dropChain 1 e)
+
+-- how many binders stand before what follows: one arrow, or a run of others
+unfoldable pub partLength : Bool → Expr → ℕ
+partLength true e = 1
+partLength false e = runLength (firstBinder e .isPi) e

@@ -22,7 +22,8 @@ ghost use Rattle.pool.specs.Unfold.{exprAt};
 ghost use Rattle.document.specs.Sink.{State, emit};
 ghost use Rattle.document.specs.Sink.State.{state};
 ghost use Rattle.pretty_printer.specs.Binders.{isArrow, binderName};
-ghost use Rattle.pretty_printer.specs.Asked.{Pooled, RunEnd};
+ghost use Rattle.pretty_printer.specs.Asked.{Pooled, RunEnd, PartEnd};
+ghost use Rattle.pretty_printer.specs.Parts.{levelOf};
 ghost use Rattle.pretty_printer.specs.Steps.{binderKind, isBinder, firstBinder, inRun, runLength, dropChain};
 
 // Whether the variable of the binder at row r occurs in its body.
@@ -92,6 +93,38 @@ pub fn run_end(
         at = expr_word(words, t, at, 4);
     }
     Reached { row: at, count: n }
+}
+
+// Where what row r starts ends: an arrow binder, or a run of others.
+pub fn part_end(
+    bytes: &[u8],
+    names: &[u32],
+    words: &[u32],
+    t: Tables,
+    r: usize,
+    arrow: bool,
+) -> Reached
+    requires { ⌜ (Pooled (now bytes) (now names) (now words) t) × (r < E (now words)) × (binderKind (exprWord (now words) r 0) ≡ true) ⌝ }
+    requires { ⌜ arrow ≡ isArrow (firstBinder (exprAt (over (now bytes) (now names) (now words)) r)) ⌝ }
+    ensures { λ v. ⌜ PartEnd (over (now (bytes .entry)) (now (names .entry)) (now (words .entry))) arrow r (v .row) (v .count) ⌝ }
+{
+    if arrow {
+        return Reached {
+            row: expr_word(words, t, r, 4),
+            count: 1,
+        };
+    }
+    run_end(bytes, names, words, t, r, expr_word(words, t, r, 0) == 4)
+}
+
+// The level of what starts with an arrow binder, or with another.
+pub fn level_of(arrow: bool) -> usize
+    ensures { λ v. ⌜ (v ≡ levelOf arrow) × (v ≤ 1024) ⌝ }
+{
+    if arrow {
+        return 24;
+    }
+    0
 }
 
 // A binder's name; "_" if it is anonymous and its variable does not occur.

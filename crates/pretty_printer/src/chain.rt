@@ -1,4 +1,5 @@
 // Chains: the longest run of pi and lambda from a row on.
+use crate::stack::Entry;
 use crate::stack::Stack;
 use pool::tables::Tables;
 use pool::tables::expr_word;
@@ -33,7 +34,7 @@ pub fn chain_length(bytes: &[u8], names: &[u32], words: &[u32], t: Tables, r: us
     n
 }
 
-// The stack with the names of the chain at row r, which starts in the scope h.
+// The stack with the names of the chain at row r, which starts in the scope h. Written in place: a call of `push` would copy the stack.
 pub fn push_chain(
     bytes: &[u8],
     names: &[u32],
@@ -52,9 +53,14 @@ pub fn push_chain(
     let mut link = h;
     let mut kind = expr_word(words, t, r, 0);
     while is_binder(kind) {
-        let name = expr_word(words, t, at, 1);
-        l = l.push(name, link);
-        link = l.count;
+        let n = l.count;
+        let e = Entry {
+            name: expr_word(words, t, at, 1) as u16,
+            link: link as u16,
+        };
+        l.entries[n] = e;
+        l.count = n + 1;
+        link = n + 1;
         at = expr_word(words, t, at, 4);
         kind = expr_word(words, t, at, 0);
     }

@@ -1,6 +1,5 @@
 // Groups of binders: where one ends, and its names.
 use crate::binders::Reached;
-use crate::binders::in_run;
 use crate::binders::pp_binder_name;
 use compare::trees::same_lifted;
 use document::sink::Sink;
@@ -10,7 +9,7 @@ use pool::tables::Tables;
 use pool::tables::expr_word;
 use utf8::bools::both;
 ghost use mathlib.Core.Path.{_≡_};
-ghost use mathlib.Core.Bool.{true, _&&_};
+ghost use mathlib.Core.Bool.{true};
 ghost use Prim.Native.Nat.{_<_, _≤_};
 ghost use Rattle.document.specs.Sink.{State, putBreak, emit};
 ghost use Rattle.document.specs.Sink.State.{state};
@@ -21,26 +20,22 @@ ghost use Rattle.names.specs.Docs.{tile};
 ghost use Rattle.names.specs.Tiles.{endTile, putTile};
 ghost use Rattle.pretty_printer.specs.Asked.{Pooled, GroupEnd};
 ghost use Rattle.pretty_printer.specs.Binders.{binderName};
-ghost use Rattle.pretty_printer.specs.Steps.{binderKind, isBinder, firstBinder, inGroup, chainLength, nameDocs};
+ghost use Rattle.pretty_printer.specs.Steps.{binderKind, firstBinder, inGroup, chainLength, nameDocs};
 
-// Whether row `at` is a binder that belongs to the group of one j places before it, with that style and type row.
+// Whether the binder at row `at` belongs to the group of one j places before it, with that style and type row.
 fn in_group(
     bytes: &[u8],
     names: &[u32],
     words: &[u32],
     t: Tables,
     at: usize,
-    pis: bool,
     style: usize,
     like: usize,
     j: usize,
 ) -> bool
-    requires { ⌜ (Pooled (now bytes) (now names) (now words) t) × (at < E (now words)) × (like < E (now words)) ⌝ }
-    ensures { λ v. ⌜ v ≡ (isBinder (exprAt (over (now (bytes .entry)) (now (names .entry)) (now (words .entry))) at) && inGroup pis style (exprAt (over (now (bytes .entry)) (now (names .entry)) (now (words .entry))) like) j (firstBinder (exprAt (over (now (bytes .entry)) (now (names .entry)) (now (words .entry))) at))) ⌝ }
+    requires { ⌜ (Pooled (now bytes) (now names) (now words) t) × (at < E (now words)) × (like < E (now words)) × (binderKind (exprWord (now words) at 0) ≡ true) ⌝ }
+    ensures { λ v. ⌜ v ≡ inGroup style (exprAt (over (now (bytes .entry)) (now (names .entry)) (now (words .entry))) like) j (firstBinder (exprAt (over (now (bytes .entry)) (now (names .entry)) (now (words .entry))) at)) ⌝ }
 {
-    if !in_run(bytes, names, words, t, at, pis) {
-        return false;
-    }
     let alike = both(style != 3, style == expr_word(words, t, at, 2));
     if !alike {
         return false;
@@ -48,23 +43,26 @@ fn in_group(
     same_lifted(bytes, names, words, t, like, expr_word(words, t, at, 3), j)
 }
 
-// Where the group that the binder at row r starts ends.
+// Where the group that the binder at row r starts ends, among n binders.
 pub fn group_end(
     bytes: &[u8],
     names: &[u32],
     words: &[u32],
     t: Tables,
     r: usize,
-    pis: bool,
+    n: usize,
 ) -> Reached
-    requires { ⌜ (Pooled (now bytes) (now names) (now words) t) × (r < E (now words)) × (binderKind (exprWord (now words) r 0) ≡ true) ⌝ }
-    ensures { λ v. ⌜ GroupEnd (over (now (bytes .entry)) (now (names .entry)) (now (words .entry))) pis r (v .row) (v .count) ⌝ }
+    requires { ⌜ (Pooled (now bytes) (now names) (now words) t) × (r < E (now words)) × (0 < n) × (n ≤ chainLength (exprAt (over (now bytes) (now names) (now words)) r)) ⌝ }
+    ensures { λ v. ⌜ GroupEnd (over (now (bytes .entry)) (now (names .entry)) (now (words .entry))) n r (v .row) (v .count) ⌝ }
 {
     let style = expr_word(words, t, r, 2);
     let like = expr_word(words, t, r, 3);
     let mut at = expr_word(words, t, r, 4);
     let mut j: usize = 1;
-    while in_group(bytes, names, words, t, at, pis, style, like, j) {
+    while j < n {
+        if !in_group(bytes, names, words, t, at, style, like, j) {
+            return Reached { row: at, count: j };
+        }
         j = j + 1;
         at = expr_word(words, t, at, 4);
     }

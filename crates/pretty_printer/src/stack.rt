@@ -1,7 +1,7 @@
 // The names in force.
 ghost use mathlib.Core.Path.{_≡_};
-ghost use Prim.Native.Nat.{_<_, _≤_};
-ghost use Rattle.pretty_printer.specs.Scopes.{Linked, Reached, push as pushed};
+ghost use Prim.Native.Nat.{_<_};
+ghost use Rattle.pretty_printer.specs.Scopes.{Linked, push as pushed};
 
 // A name of the stack: its row, and the scope that was in force before it. A scope is 0, or one more than the place of its last name.
 pub struct Entry {
@@ -13,12 +13,6 @@ pub struct Entry {
 pub struct Stack {
     pub entries: [Entry; 1024],
     pub count: usize,
-}
-
-// A scope, and what is left of a variable's index there.
-pub struct Scope {
-    pub scope: usize,
-    pub left: usize,
 }
 
 impl Stack {
@@ -46,29 +40,5 @@ impl Stack {
         k.entries[n] = e;
         k.count = n + 1;
         k
-    }
-
-    // The variable i of a scope, followed outward to its name or past the last one.
-    pub fn look_up(self, scope: usize, i: usize) -> Scope
-        requires { ⌜ (Linked self) × (scope ≤ self .count) ⌝ }
-        ensures { λ v. ⌜ Reached self scope i (v .scope) (v .left) ⌝ }
-    {
-        let mut at = scope;
-        let mut left = i;
-        while left > 0 {
-            if at == 0 {
-                return Scope {
-                    scope: 0,
-                    left: left,
-                };
-            }
-            let e = self.entries[at - 1];
-            at = e.link as usize;
-            left = left - 1;
-        }
-        Scope {
-            scope: at,
-            left: left,
-        }
     }
 }

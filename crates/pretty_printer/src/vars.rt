@@ -29,12 +29,15 @@ pub fn pp_bvar(
     requires { ⌜ (Pooled (now bytes) (now names) (now words) t) × (Held (over (now bytes) (now names) (now words)) k) × (scope ≤ k .count) × (i ≤ 4095) ⌝ }
     ensures { λ v. ⌜ state (now (rows .exit)) (now (text .exit)) v ≡ emit (varDoc (namesOf (over (now (bytes .entry)) (now (names .entry)) (now (words .entry))) k) (placeIn k scope i) (placeIn k scope i)) (state (now (rows .entry)) (now (text .entry)) s) ⌝ }
 {
-    let found = k.look_up(scope, i);
-    let at = found.scope;
-    let left = found.left;
-    if at == 0 {
-        return put_number(rows, text, s, (k.count + left) as u64);
+    let mut at = scope;
+    let mut left = i;
+    while at > 0 {
+        let e = k.entries[at - 1];
+        if left == 0 {
+            return pp_name_safe(bytes, names, words, t, rows, text, s, e.name as usize);
+        }
+        at = e.link as usize;
+        left = left - 1;
     }
-    let e = k.entries[at - 1];
-    pp_name_safe(bytes, names, words, t, rows, text, s, e.name as usize)
+    put_number(rows, text, s, (k.count + left) as u64)
 }
