@@ -1,1 +1,3 @@
 pub mod AnswerLaws
+pub mod Beginning
+pub mod Finishing

@@ -1,3 +1,4 @@
 pub mod Answers
 pub mod Prints
 pub mod Handing
+pub mod Stages
