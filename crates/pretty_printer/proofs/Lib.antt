@@ -14,3 +14,4 @@ pub mod RunningLaws
 pub mod FineLaws
 pub mod NamingLaws
 pub mod GroupingLaws
+pub mod PlaceLaws
