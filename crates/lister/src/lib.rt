@@ -1,17 +1,24 @@
 // The calls: check, print expression, print declaration, layout of a given document, handing out.
 use checked::print_checked_declar;
 use checked::print_checked_expr;
+use handing::string_part;
+use handing::text_part;
+use layout::Laid;
 use pool::Verdict;
 use pool::tables::tables_of;
 use utf8::bools::both;
 ghost use mathlib.Core.Path.{_≡_};
 ghost use Prim.Native.Nat.{_≤_};
+ghost use Rattle.pool.specs.Check.{verdict};
+ghost use Rattle.layout.specs.Call.{outcome};
+ghost use Rattle.lister.specs.Handing.{isAccepted, handOut};
 ghost use Rattle.lister.specs.Prints.{sizesOk, printExpr, printDeclar};
 ghost use Rattle.lister.specs.Stages.{mayPrint};
 ghost use Rattle.lister.specs.declared.Answer.{Answer};
 ghost use mathlib.Core.Bool.{cond};
 
 pub mod checked;
+mod handing;
 
 // What a print answers: the counts of a print that succeeded, or the case of a refusal with its place.
 pub enum Answer {
@@ -72,17 +79,24 @@ fn sizes_ok(indent: usize, width: usize) -> bool
     both(indent <= 64, width <= 65535)
 }
 
-// Whether a print may begin.
-fn may_print(v: Verdict, present: bool, sizes: bool) -> bool
-    ensures { λ r. ⌜ r ≡ mayPrint v present sizes ⌝ }
+// Whether check found nothing.
+fn is_accepted(v: Verdict) -> bool
+    ensures { λ r. ⌜ r ≡ isAccepted v ⌝ }
 {
     match v {
-        Verdict::Accepted => both(present, sizes),
+        Verdict::Accepted => true,
         Verdict::Words => false,
         Verdict::Limit => false,
         Verdict::Strings { row } => false,
         Verdict::Rows { row } => false,
     }
+}
+
+// Whether a print may begin.
+fn may_print(v: Verdict, present: bool, sizes: bool) -> bool
+    ensures { λ r. ⌜ r ≡ mayPrint v present sizes ⌝ }
+{
+    both(is_accepted(v), both(present, sizes))
 }
 
 // 5 comes before 6.
@@ -172,4 +186,44 @@ pub fn print_declar(
         text,
         listing,
     )
+}
+
+// Whether a pool is accepted, and else the first of the numbers 1 to 4 that refuses it, with its place.
+pub fn check(bytes: &[u8], words: &[u32]) -> Verdict
+    ensures { λ v. ⌜ v ≡ verdict (now (bytes .entry)) (now (words .entry)) ⌝ }
+{
+    pool::check(bytes, words)
+}
+
+// Lays out a given document.
+pub fn layout(
+    rows: &[u32],
+    count: usize,
+    text: &[u8],
+    total: usize,
+    width: usize,
+    listing: &mut [u8],
+) -> Laid
+    ensures { λ v. ⌜ record { answer = v; listing = now (listing .exit) } ≡ outcome (now (rows .entry)) count (now (text .entry)) total width (now (listing .entry)) ⌝ }
+{
+    layout::layout(rows, count, text, total, width, listing)
+}
+
+// Hands out the text of a document's row or a pool's string: a part of `text` or of `bytes`, an empty one unless document or pool is
+// accepted and has that row.
+pub fn hand_out<'a>(
+    bytes: &'a [u8],
+    words: &[u32],
+    rows: &[u32],
+    count: usize,
+    text: &'a [u8],
+    total: usize,
+    what: Handed,
+) -> &'a [u8]
+    ensures { λ s. ⌜ now s ≡ handOut (now (bytes .entry)) (now (words .entry)) (now (rows .entry)) count (now (text .entry)) total what ⌝ }
+{
+    match what {
+        Handed::Text { row } => text_part(rows, count, text, total, row),
+        Handed::String { row } => string_part(bytes, words, row),
+    }
 }

@@ -503,7 +503,7 @@ module _ (indent : ℕ) where
       let t : Taken = taken bs value 0 in
       let front : Marked = word kind ⊹ quoted " " ⊹ info name levels ⊹ quoted " " in
       let whole : List Name → List Binder → Expr → Taken → Marked =
-          (λ ns cs body u. front ⊹ defPart indent (exprPar indent ns) cs body u ⊹ valuePart indent (exprPar indent ns) cs u) in
+      (λ ns cs body u. front ⊹ defPart indent (exprPar indent ns) cs body u ⊹ valuePart indent (exprPar indent ns) cs u) in
       let left : Marked = whole (pushed bs []) bs (chainBody type) t in
       subst (λ (cs : List Binder). Like left (whole (pushed cs []) cs (chainBody (forget type)) (taken cs (forget value) 0))) (sym (binders-forget type))
       (subst (λ (u : Taken). Like left (whole (pushed (map plainᵇ bs) []) (map plainᵇ bs) (chainBody (forget type)) u)) (sym (taken-plain bs value 0))

@@ -1,61 +1,18 @@
-use mathlib.Core.Path.{sym, ap, _∙_}
-use Rattle.pool.specs.declared.Verdict.{Verdict}
-use Rattle.lister.specs.Handing.{isAccepted}
-use Rattle.lister.specs.Stages.{mayPrint}
 use borrow.Author.Needs.{needs}
 use Rattle.lister.proofs.may_print.Statement.{statement}
 use Rattle.lister.proofs.may_print.Tie as tie
 
-enum-told : tie.Need-enum-told
-enum-told c = search needs
+is-accepted-requires : tie.Need-is-accepted-requires
+is-accepted-requires c κs = search needs
 
 both-requires : tie.Need-both-requires
 both-requires c κs = search needs
 
-enum-told-2 : tie.Need-enum-told-2
-enum-told-2 c = search needs
-
-enum-told-3 : tie.Need-enum-told-3
-enum-told-3 c = search needs
-
-enum-known-v : tie.Need-enum-known-v
-enum-known-v c = search needs
-
-enum-known-v-2 : tie.Need-enum-known-v-2
-enum-known-v-2 c = search needs
+both-requires-2 : tie.Need-both-requires-2
+both-requires-2 c κs = search needs
 
 returns : tie.Need-returns
-unfolding isAccepted
-returns c = c .both .ensures ∙ sym (ap (λ (x : Verdict). mayPrint x (c .before .before .before .args .present) (c .before .before .before .args .sizes)) (c .before .enum-told .given .1))
-
-returns-2 : tie.Need-returns-2
-unfolding isAccepted
-returns-2 c = sym (ap (λ (x : Verdict). mayPrint x (c .before .before .args .present) (c .before .before .args .sizes)) (c .enum-told2 .given .1))
-
-returns-3 : tie.Need-returns-3
-unfolding isAccepted
-returns-3 c = sym (ap (λ (x : Verdict). mayPrint x (c .before .before .args .present) (c .before .before .args .sizes)) (c .enum-told3 .given .1))
-
-returns-4 : tie.Need-returns-4
-unfolding isAccepted
-returns-4 c = sym (ap (λ (x : Verdict). mayPrint x (c .before .before .before .args .present) (c .before .before .before .args .sizes)) (c .before .v .given .1))
-
-returns-5 : tie.Need-returns-5
-unfolding isAccepted
-returns-5 c = sym (ap (λ (x : Verdict). mayPrint x (c .before .before .before .args .present) (c .before .before .before .args .sizes)) (c .before .v2 .given .1))
+returns c = rw (c .both2 .ensures, c .before .before .is-accepted .ensures, c .before .both .ensures)
 
 pub may-print-spec : {M : Type 1} → statement M
-may-print-spec =
-    tie.close
-    (tie.spec
-    enum-told
-    both-requires
-    enum-told-2
-    enum-told-3
-    enum-known-v
-    enum-known-v-2
-    returns
-    returns-2
-    returns-3
-    returns-4
-    returns-5)
+may-print-spec = tie.close (tie.spec is-accepted-requires both-requires both-requires-2 returns)
