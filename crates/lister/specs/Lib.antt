@@ -2,3 +2,4 @@ pub mod Answers
 pub mod Prints
 pub mod Handing
 pub mod Stages
+pub mod ThirdProperty
