@@ -392,19 +392,3 @@ third-property k =
       starts-rows = λ r s. starts r s;
       holds-width = λ r s. holds r s;
     }
-
--- every call is a run
-pub run-of : (k : Print) (bytes words : List ℕ) (root indent width : ℕ) → Areas → Run k
-run-of k bytes words root indent width areas =
-    let o : Outcome = call k bytes words root indent width areas in
-    record {
-      bytes = bytes;
-      words = words;
-      root = root;
-      indent = indent;
-      width = width;
-      lent = areas;
-      answer = o .answer;
-      left = o .areas;
-      returns = refl;
-    }

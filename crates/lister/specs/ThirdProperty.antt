@@ -2,7 +2,7 @@
 use Prim.Native.Nat.{ℕ, _<_, _≤_}
 use mathlib.Core.Bool.{Bool, true, false}
 use mathlib.Core.List.{List}
-use mathlib.Core.Path.{_≡_}
+use mathlib.Core.Path.{_≡_, refl}
 use lib.ListN.{length, take, replicate}
 use Rattle.document.specs.Doc.{Doc, rowCount, textBytes}
 use Rattle.document.specs.Rows.{docAt}
@@ -64,6 +64,21 @@ pub record Run (k : Print) : Type 0 where
   pub answer : Answer
   pub left : Areas
   pub returns : record { answer = answer; areas = left } ≡ call k bytes words root indent width lent
+
+-- the run that a call is
+abbrev pub runOf : (k : Print) (bytes words : List ℕ) (root indent width : ℕ) → Areas → Run k
+runOf k bytes words root indent width areas =
+    record {
+      bytes = bytes;
+      words = words;
+      root = root;
+      indent = indent;
+      width = width;
+      lent = areas;
+      answer = call k bytes words root indent width areas .answer;
+      left = call k bytes words root indent width areas .areas;
+      returns = refl;
+    }
 
 -- "An accepted pool is one that check refuses under no number", and the root is in it
 pub record Rooted {k : Print} (r : Run k) : Type 0 where
