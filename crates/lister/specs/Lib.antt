@@ -1,3 +1,5 @@
 pub mod Answers
 pub mod Prints
 pub mod Handing
+pub mod Stages
+pub mod ThirdProperty

@@ -1,4 +1,24 @@
 // The calls: check, print expression, print declaration, layout of a given document, handing out.
+use checked::print_checked_declar;
+use checked::print_checked_expr;
+use handing::string_part;
+use handing::text_part;
+use layout::Laid;
+use pool::Verdict;
+use pool::tables::tables_of;
+use utf8::bools::both;
+ghost use mathlib.Core.Path.{_≡_};
+ghost use Prim.Native.Nat.{_≤_};
+ghost use Rattle.pool.specs.Check.{verdict};
+ghost use Rattle.layout.specs.Call.{outcome};
+ghost use Rattle.lister.specs.Handing.{isAccepted, handOut};
+ghost use Rattle.lister.specs.Prints.{sizesOk, printExpr, printDeclar};
+ghost use Rattle.lister.specs.Stages.{mayPrint};
+ghost use Rattle.lister.specs.declared.Answer.{Answer};
+ghost use mathlib.Core.Bool.{cond};
+
+pub mod checked;
+mod handing;
 
 // What a print answers: the counts of a print that succeeded, or the case of a refusal with its place.
 pub enum Answer {
@@ -50,4 +70,160 @@ pub enum Answer {
 pub enum Handed {
     Text { row: usize },
     String { row: usize },
+}
+
+// "indent over 64 or width over 65,535": the contrary.
+fn sizes_ok(indent: usize, width: usize) -> bool
+    ensures { λ v. ⌜ v ≡ sizesOk indent width ⌝ }
+{
+    both(indent <= 64, width <= 65535)
+}
+
+// Whether check found nothing.
+fn is_accepted(v: Verdict) -> bool
+    ensures { λ r. ⌜ r ≡ isAccepted v ⌝ }
+{
+    match v {
+        Verdict::Accepted => true,
+        Verdict::Words => false,
+        Verdict::Limit => false,
+        Verdict::Strings { row } => false,
+        Verdict::Rows { row } => false,
+    }
+}
+
+// Whether a print may begin.
+fn may_print(v: Verdict, present: bool, sizes: bool) -> bool
+    ensures { λ r. ⌜ r ≡ mayPrint v present sizes ⌝ }
+{
+    both(is_accepted(v), both(present, sizes))
+}
+
+// 5 comes before 6.
+fn root_or_size(present: bool) -> Answer
+    ensures { λ r. ⌜ r ≡ cond present Answer.Size Answer.Root ⌝ }
+{
+    if present {
+        return Answer::Size;
+    }
+    Answer::Root
+}
+
+// The answer of a print that may not begin.
+fn refusal(v: Verdict, present: bool) -> Answer
+    ensures { λ r. ⌜ r ≡ Rattle.lister.specs.Stages.refusal v present ⌝ }
+{
+    match v {
+        Verdict::Accepted => root_or_size(present),
+        Verdict::Words => Answer::Words,
+        Verdict::Limit => Answer::Limit,
+        Verdict::Strings { row } => Answer::Strings { row },
+        Verdict::Rows { row } => Answer::Rows { row },
+    }
+}
+
+// Prints the expression at row `root`: its document into `rows` and `text`, its listing into `listing`.
+pub fn print_expr(
+    bytes: &[u8],
+    words: &[u32],
+    root: usize,
+    indent: usize,
+    width: usize,
+    rows: &mut [u32],
+    text: &mut [u8],
+    listing: &mut [u8],
+) -> Answer
+    ensures { λ v. ⌜ record { answer = v; areas = record { rows = now (rows .exit); text = now (text .exit); listing = now (listing .exit) } } ≡ printExpr (now (bytes .entry)) (now (words .entry)) root indent width (record { rows = now (rows .entry); text = now (text .entry); listing = now (listing .entry) }) ⌝ }
+{
+    let t = tables_of(words, words);
+    let verdict = pool::check(bytes, words);
+    let present = root < t.exprs;
+    if !may_print(verdict, present, sizes_ok(indent, width)) {
+        return refusal(verdict, present);
+    }
+    print_checked_expr(
+        bytes,
+        words,
+        words,
+        t,
+        root,
+        indent,
+        width,
+        rows,
+        text,
+        listing,
+    )
+}
+
+// Prints the declaration at row `root`: its document into `rows` and `text`, its listing into `listing`.
+pub fn print_declar(
+    bytes: &[u8],
+    words: &[u32],
+    root: usize,
+    indent: usize,
+    width: usize,
+    rows: &mut [u32],
+    text: &mut [u8],
+    listing: &mut [u8],
+) -> Answer
+    ensures { λ v. ⌜ record { answer = v; areas = record { rows = now (rows .exit); text = now (text .exit); listing = now (listing .exit) } } ≡ printDeclar (now (bytes .entry)) (now (words .entry)) root indent width (record { rows = now (rows .entry); text = now (text .entry); listing = now (listing .entry) }) ⌝ }
+{
+    let t = tables_of(words, words);
+    let verdict = pool::check(bytes, words);
+    let present = root < t.declars;
+    if !may_print(verdict, present, sizes_ok(indent, width)) {
+        return refusal(verdict, present);
+    }
+    print_checked_declar(
+        bytes,
+        words,
+        words,
+        t,
+        root,
+        indent,
+        width,
+        rows,
+        text,
+        listing,
+    )
+}
+
+// Whether a pool is accepted, and else the first of the numbers 1 to 4 that refuses it, with its place.
+pub fn check(bytes: &[u8], words: &[u32]) -> Verdict
+    ensures { λ v. ⌜ v ≡ verdict (now (bytes .entry)) (now (words .entry)) ⌝ }
+{
+    pool::check(bytes, words)
+}
+
+// Lays out a given document.
+pub fn layout(
+    rows: &[u32],
+    count: usize,
+    text: &[u8],
+    total: usize,
+    width: usize,
+    listing: &mut [u8],
+) -> Laid
+    ensures { λ v. ⌜ record { answer = v; listing = now (listing .exit) } ≡ outcome (now (rows .entry)) count (now (text .entry)) total width (now (listing .entry)) ⌝ }
+{
+    layout::layout(rows, count, text, total, width, listing)
+}
+
+// Hands out the text of a document's row or a pool's string: a part of `text` or of `bytes`, an empty one unless document or pool is
+// accepted and has that row.
+pub fn hand_out<'a>(
+    bytes: &'a [u8],
+    words: &[u32],
+    rows: &[u32],
+    count: usize,
+    text: &'a [u8],
+    total: usize,
+    what: Handed,
+) -> &'a [u8]
+    ensures { λ s. ⌜ now s ≡ handOut (now (bytes .entry)) (now (words .entry)) (now (rows .entry)) count (now (text .entry)) total what ⌝ }
+{
+    match what {
+        Handed::Text { row } => text_part(rows, count, text, total, row),
+        Handed::String { row } => string_part(bytes, words, row),
+    }
 }

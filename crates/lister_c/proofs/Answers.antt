@@ -9,7 +9,11 @@ use Rattle.layout.specs.declared.Laid.the-variants.{Done, Document, Width, List
 use Rattle.layout.specs.Call as call
 use Rattle.layout.specs.Call.{Outcome}
 use Rattle.lister_c.specs.declared.Report.{Report}
-use Rattle.lister_c.specs.Reports.{Checked, LaidOut, ofVerdict, ofLaid, put, checked, laid}
+use Rattle.lister.specs.declared.Answer.{Answer}
+use Rattle.lister.specs.declared.Answer.the-variants as variants
+use Rattle.lister.specs.Answers as numbers
+use Rattle.lister.specs.Prints as prints
+use Rattle.lister_c.specs.Reports.{Checked, LaidOut, Printed, ofVerdict, ofLaid, ofAnswer, put, checked, laid, printed}
 
 abbrev pub answer : ℕ → List ℕ → Checked
 answer number out = record { number = number; out = out }
@@ -49,3 +53,36 @@ layout-answer {v} {listing} {o} {r} out outcome report filled =
     ap (answers listing (r .number)) filled
     ∙ (ap (λ (x : Report). answers listing (x .number) (put out x)) report
     ∙ (ap (λ (n : ℕ). answers listing n (put out (ofLaid v))) (number-of v) ∙ ap (λ (x : Outcome). laid x out) outcome))
+
+print-number : (v : Answer) → ofAnswer v .number ≡ numbers.number v
+unfolding ofAnswer numbers.number
+print-number (variants.Done rows text length lines longest tests) = refl
+print-number variants.Words = refl
+print-number variants.Limit = refl
+print-number (variants.Strings row) = refl
+print-number (variants.Rows row) = refl
+print-number variants.Root = refl
+print-number variants.Size = refl
+print-number (variants.Names row) = refl
+print-number (variants.Document rows) = refl
+print-number (variants.RowArea rows) = refl
+print-number (variants.TextArea rows) = refl
+print-number variants.Listing = refl
+
+abbrev pub printOutcome : Answer → prints.Areas → prints.Outcome
+printOutcome v areas = record { answer = v; areas = areas }
+
+abbrev pub printAnswers : prints.Areas → ℕ → List ℕ → Printed
+printAnswers areas number out = record { number = number; areas = areas; out = out }
+
+pub print-answer :
+    {v : Answer} {areas : prints.Areas} {o : prints.Outcome} {r : Report} {last : List ℕ} (out : List ℕ)
+    → printOutcome v areas ≡ o
+    → r ≡ ofAnswer v
+    → last ≡ put out r
+    → printAnswers areas (r .number) last ≡ printed o out
+unfolding printed
+print-answer {v} {areas} {o} {r} out outcome report filled =
+    ap (printAnswers areas (r .number)) filled
+    ∙ (ap (λ (x : Report). printAnswers areas (x .number) (put out x)) report
+    ∙ (ap (λ (n : ℕ). printAnswers areas n (put out (ofAnswer v))) (print-number v) ∙ ap (λ (x : prints.Outcome). printed x out) outcome))

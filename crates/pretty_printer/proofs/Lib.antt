@@ -20,3 +20,4 @@ pub mod LeafLaws
 pub mod CallLaws
 pub mod RowLaws
 pub mod GroupingLaws
+pub mod PlaceLaws

@@ -1,11 +1,14 @@
 use mathlib.Core.Path.{sym, ap, _∙_}
-use borrow.Author.Needs.{needs}
 use Rattle.lister_c.specs.Reports.{ofLaid}
+use borrow.Author.Needs.{needs}
 use Rattle.lister_c.proofs.of_laid.Statement.{statement}
 use Rattle.lister_c.proofs.of_laid.Tie as tie
 
 enum-known-v : tie.Need-enum-known-v
 enum-known-v c = search needs
+
+counts-requires : tie.Need-counts-requires
+counts-requires c κs = search needs
 
 enum-known-v-2 : tie.Need-enum-known-v-2
 enum-known-v-2 c = search needs
@@ -27,7 +30,7 @@ refusal-requires-3 c κs = search needs
 
 returns : tie.Need-returns
 unfolding ofLaid
-returns c = sym (ap ofLaid (c .before .v .given .1))
+returns c = c .counts .ensures ∙ sym (ap ofLaid (c .before .before .v .given .1))
 
 returns-2 : tie.Need-returns-2
 unfolding ofLaid
@@ -46,6 +49,7 @@ of-laid-spec =
     tie.close
     (tie.spec
     enum-known-v
+    counts-requires
     enum-known-v-2
     refusal-requires
     enum-told
