@@ -11,7 +11,7 @@ pub mod calls;
 mod listing;
 mod pool;
 pub mod pool_file;
-mod raw;
+pub mod raw;
 mod refusal;
 mod stack;
 pub mod text;

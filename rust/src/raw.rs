@@ -1,4 +1,4 @@
-//! The C functions of the static library, as include/tilusorgu.h declares them.
+//! The C functions of the static library, as include/tilusorgu.h declares them and says what they need. [`crate::calls`] has them as safe functions.
 
 extern "C" {
     pub fn tilusorgu_check(bytes: *const u8, byte_count: usize, words: *const u32, word_count: usize, out: *mut u64, out_count: usize) -> u32;

@@ -1,8 +1,11 @@
 //! Every number that a call can refuse under, with its place, and what the lent areas hold afterwards.
 #[path = "common/guarded.rs"]
 mod guarded;
+#[path = "common/limits.rs"]
+mod limits;
 
 use guarded::Guarded;
+use limits::nested_chains;
 use tilusorgu::calls::{self, MOST_ROW_WORDS, MOST_TEXT_BYTES};
 use tilusorgu::text::{pack, Packed, Sharing};
 use tilusorgu::{Counts, Given, Lent, Pool, Refusal, Root, Sizes};
@@ -108,9 +111,7 @@ fn number_1() {
 
 #[test]
 fn number_2() {
-    let mut words = vec![0; 7 + 65_537];
-    words[4] = 65_537;
-    assert_pool(&Pool { bytes: vec![], words }, refusal(2, 0));
+    assert_pool(&limits::too_many_list_words(), refusal(2, 0));
     assert_pool(&Pool { bytes: vec![0; 16_777_217], words: vec![0; 7] }, refusal(2, 0));
 }
 
@@ -146,20 +147,6 @@ fn numbers_5_and_6() {
     assert_eq!(arrow(expr(), 2, 65536, EXACT), Err(refusal(6, 0)));
 }
 
-/// Chains of implicit pis of these lengths, each in the first binder's type of the one before; the last one is `chain0`.
-fn nested_chains(lengths: &[usize]) -> String {
-    let mut text = String::from("(define t0 @C)");
-    for i in 1..255 {
-        text += &format!("(define t{i} (forall {{x : @C}} $t{}))", i - 1);
-    }
-    let mut inner = String::from("@C");
-    for (i, n) in lengths.iter().rev().enumerate() {
-        text += &format!("(define chain{i} (forall {{x : {inner}}} $t{}))", n - 1);
-        inner = format!("$chain{i}");
-    }
-    text
-}
-
 #[test]
 fn number_7() {
     let row_of = |p: &Packed, short: &str| p.defined.iter().find(|(s, _)| s == short).unwrap().1;
@@ -174,11 +161,10 @@ fn number_7() {
 
 #[test]
 fn number_8() {
-    let literal = packed(&format!("(define s \"{}\")", "a".repeat(65_535))).pool;
+    let literal = packed(&limits::long_literal()).pool;
     assert_eq!(judged(&literal, Root::Expr(0), Sizes::default(), [MOST_ROW_WORDS, 70_000, 99_999]), Err(refusal(8, 3)));
     assert_eq!(judged(&literal, Root::Expr(0), Sizes::default(), [MOST_ROW_WORDS, 65_535, 99_999]), Err(refusal(21, 1)));
-    let doubled = (1..12).fold(String::from("(define e0 @c)"), |text, i| text + &format!("(define e{i} ($e{} $e{}))", i - 1, i - 1));
-    assert_eq!(judged(&packed(&doubled).pool, Root::Expr(11), Sizes::default(), LONG), Err(refusal(8, 16_384)));
+    assert_eq!(judged(&packed(&limits::doubled()).pool, Root::Expr(11), Sizes::default(), LONG), Err(refusal(8, 16_384)));
 }
 
 #[test]
