@@ -13,6 +13,7 @@ mod pool;
 pub mod pool_file;
 pub mod raw;
 mod refusal;
+mod rules;
 mod stack;
 pub mod text;
 
@@ -20,4 +21,4 @@ pub use calls::{Counts, Given, Lent, Root, Sizes};
 pub use listing::{Areas, Listing};
 pub use pool::{Pool, Table};
 pub use refusal::Refusal;
-pub use stack::{with_stack, STACK};
+pub use stack::{try_with_stack, with_stack, STACK};

@@ -12,9 +12,9 @@ pub struct Listing {
 
 /// The areas of prints, to be used again from print to print. Rows and texts are never full; the listing area grows as it has to.
 pub struct Areas {
-    pub rows: Vec<u32>,
-    pub text: Vec<u8>,
-    pub listing: Vec<u8>,
+    rows: Vec<u32>,
+    text: Vec<u8>,
+    listing: Vec<u8>,
 }
 
 impl Default for Areas {

@@ -1,5 +1,6 @@
 //! Pools, their tables, and what to say of a row.
 use crate::refusal::Refusal;
+use crate::rules::rule;
 
 /// A byte area and words: seven counts, then the tables in the order of [`Table`].
 #[derive(Clone, Debug, Default, PartialEq, Eq)]
@@ -31,19 +32,6 @@ impl Table {
     /// What one row is called.
     pub fn row_name(self) -> &'static str {
         ["string", "name", "level", "list", "list word", "expression", "declaration"][self as usize]
-    }
-
-    /// What every row of the table has to be.
-    pub fn rule(self) -> &'static str {
-        [
-            "a string row is a part of the byte area (offset, length), its offset not below the row's before, and is UTF-8",
-            "a name row has kind 0 to 2, a prefix among the lower name rows, a string row that exists or a number, depth at most 64, and unused words 0",
-            "a level row has kind 0 to 4, operands among the lower level rows or a name row that exists, depth at most 64, and unused words 0",
-            "a list row is a part of the list words (offset, length), its offset not below the row's before",
-            "a list word is a level row that exists",
-            "an expression row has kind 0 to 9, children among the lower expression rows, other references to rows that exist, a variable index of at most 4,095, a projection index of at most 65,534, a style of at most 3, nondep of at most 1, digits without a leading zero, the depth (at most 256) and the loose number that its children make, and unused words 0",
-            "a declaration row has kind 0 to 7, references to rows that exist, and value 0 unless its kind is 2 to 4",
-        ][self as usize]
     }
 }
 
@@ -115,7 +103,8 @@ impl Pool {
     /// This pool with the tables up to this one. Lists are judged by how many list words there are, so theirs stand in as zeros,
     /// over one level.
     fn up_to(&self, last: Table) -> Option<Pool> {
-        let mut tables: Vec<Vec<u32>> = Table::ALL.iter().map(|&t| if t as usize <= last as usize { self.rows(t) } else { Some(Vec::new()) }).collect::<Option<_>>()?;
+        let mut tables: Vec<Vec<u32>> =
+            Table::ALL.iter().map(|&t| if t as usize <= last as usize { self.rows(t) } else { Some(Vec::new()) }).collect::<Option<_>>()?;
         if last == Table::Lists {
             tables[Table::ListWords as usize] = vec![0; self.count(Table::ListWords) as usize];
             if tables[Table::Levels as usize].is_empty() {
@@ -133,6 +122,6 @@ impl Pool {
             return refusal.to_string();
         };
         let words: Vec<String> = row.iter().map(u32::to_string).collect();
-        format!("refused {} ({} row {}, words {}): {}", refusal.number, table.row_name(), refusal.place, words.join(" "), table.rule())
+        format!("refused {} ({} row {}, words {}): {}", refusal.number, table.row_name(), refusal.place, words.join(" "), rule(table, row))
     }
 }

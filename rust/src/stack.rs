@@ -1,5 +1,6 @@
 //! Machine stack for the calls.
 use std::cell::Cell;
+use std::io;
 
 /// The stack of the thread that [`with_stack`] starts. The deepest call is known to pass in 8 MiB.
 pub const STACK: usize = 64 << 20;
@@ -14,15 +15,20 @@ thread_local!(static ENOUGH: Cell<bool> = const { Cell::new(false) });
 /// # Panics
 /// If the task does, or if the system gives no thread.
 pub fn with_stack<T: Send>(task: impl FnOnce() -> T + Send) -> T {
+    try_with_stack(task).expect("the system gives a thread")
+}
+
+/// [`with_stack`], with the system's error where it gives no thread.
+pub fn try_with_stack<T: Send>(task: impl FnOnce() -> T + Send) -> io::Result<T> {
     if ENOUGH.get() {
-        return task();
+        return Ok(task());
     }
     std::thread::scope(|scope| {
         let marked = || {
             ENOUGH.set(true);
             task()
         };
-        let thread = std::thread::Builder::new().stack_size(STACK).spawn_scoped(scope, marked).expect("the system gives a thread");
-        thread.join().unwrap_or_else(|panic| std::panic::resume_unwind(panic))
+        let thread = std::thread::Builder::new().stack_size(STACK).spawn_scoped(scope, marked)?;
+        Ok(thread.join().unwrap_or_else(|panic| std::panic::resume_unwind(panic)))
     })
 }

@@ -55,8 +55,12 @@ fn judged(pool: &Pool, root: Root, sizes: Sizes, lengths: [usize; 3]) -> Result<
             assert!(areas.rows.is_from(7 * counts.document_rows as usize, 0) && areas.text.is_from(counts.text_bytes as usize, 0));
             assert!(areas.listing.untouched_from(counts.listing_length as usize));
         }
-        Err(Refusal { number: 1..=6, .. }) => assert!(areas.rows.untouched_from(0) && areas.text.untouched_from(0) && areas.listing.untouched_from(0)),
-        Err(Refusal { number: 7 | 8 | 20 | 21, .. }) => assert!(areas.rows.is_from(0, 0) && areas.text.is_from(0, 0) && areas.listing.untouched_from(0)),
+        Err(Refusal { number: 1..=6, .. }) => {
+            assert!(areas.rows.untouched_from(0) && areas.text.untouched_from(0) && areas.listing.untouched_from(0))
+        }
+        Err(Refusal { number: 7 | 8 | 20 | 21, .. }) => {
+            assert!(areas.rows.is_from(0, 0) && areas.text.is_from(0, 0) && areas.listing.untouched_from(0))
+        }
         Err(Refusal { number: 22, .. }) => assert_22(pool, root, sizes, &areas),
         Err(other) => panic!("a print is not refused {}", other.number),
     }
@@ -167,6 +171,15 @@ fn number_8() {
     assert_eq!(judged(&packed(&limits::doubled()).pool, Root::Expr(11), Sizes::default(), LONG), Err(refusal(8, 16_384)));
 }
 
+/// A listing longer than the area that a listing starts with.
+#[test]
+fn long_listing() {
+    let pool = packed(&format!("(define e {}@c{})", "(@f @g ".repeat(250), ")".repeat(250))).pool;
+    let listing = pool.list_expr(pool.count(tilusorgu::Table::Exprs) - 1, Sizes { indent: 64, width: 0 }).unwrap();
+    assert_eq!(listing.counts.listing_length, listing.text.len() as u64);
+    assert!(listing.text.len() > 1 << 20 && listing.text.lines().count() == 1 + 2 * 250);
+}
+
 #[test]
 fn numbers_20_to_22() {
     assert_eq!(arrow(expr(), 2, 13, [7 * 17 - 1, 12, 13]), Err(refusal(20, 16)));
@@ -181,7 +194,8 @@ fn numbers_20_to_22() {
 
 /// G(N(("a" | "bc")))
 const GIVEN: [u32; 49] = [
-    0, 0, 1, 1, 1, 1, 0, 2, 1, 0, 1, 1, 0, 1, 1, 0, 0, 3, 2, 1, 1, 0, 1, 2, 1, 2, 2, 0, 1, 0, 0, 5, 4, 1, 1, 3, 64, 0, 6, 4, 1, 1, 4, 0, 0, 7, 4, 1, 1,
+    0, 0, 1, 1, 1, 1, 0, 2, 1, 0, 1, 1, 0, 1, 1, 0, 0, 3, 2, 1, 1, 0, 1, 2, 1, 2, 2, 0, 1, 0, 0, 5, 4, 1, 1, 3, 64, 0, 6, 4, 1, 1, 4, 0, 0, 7, 4, 1,
+    1,
 ];
 
 fn laid(rows: &[u32], row_count: u64, text_count: u64, width: u32, length: usize) -> (Result<Counts, Refusal>, Vec<u8>) {

@@ -31,7 +31,10 @@ fn levels() {
 fn terms() {
     assert_eq!(listed("(axiom k (@f #0 12 \"q\\n\" (proj S 1 @s)))"), "axiom k : @f 0 12 \"q\n\" @s.2");
     assert_eq!(listed("(axiom k (let (x : @Nat := 1) (have (y : @Nat := x) (@P x y))))"), "axiom k : let x : @Nat := 1; let y : @Nat := x; @P x y");
-    assert_eq!(listed("(axiom k (fun {a : @A} {{b : @B}} [c : @C] (_ : @D) (a #0)))"), "axiom k : fun {a : @A} {{b : @B}} [c : @C] («» : @D) => a «»");
+    assert_eq!(
+        listed("(axiom k (fun {a : @A} {{b : @B}} [c : @C] (_ : @D) (a #0)))"),
+        "axiom k : fun {a : @A} {{b : @B}} [c : @C] («» : @D) => a «»"
+    );
 }
 
 /// The type of a group is typed once: it means what it meant before the group's first name.
@@ -42,7 +45,8 @@ fn groups() {
     // a name of the group does not reach its own type
     assert_eq!(listed("(axiom k (forall (A : (Type u)) (A b : A) (@P A b)))"), "axiom k (A : Type u) (A b : A) : @P A b");
     let pool = pack("(define e (forall (A : (Type u)) (A b : A) b))", Sharing::Shared).unwrap().pool;
-    let types: Vec<u32> = (0..u64::from(pool.count(Table::Exprs))).filter_map(|i| pool.row(Table::Exprs, i)).filter(|r| r[0] == 0).map(|r| r[1]).collect();
+    let types: Vec<u32> =
+        (0..u64::from(pool.count(Table::Exprs))).filter_map(|i| pool.row(Table::Exprs, i)).filter(|r| r[0] == 0).map(|r| r[1]).collect();
     assert_eq!(types, [0, 1]);
 }
 
@@ -84,10 +88,19 @@ fn mistakes() {
 /// What is past a limit can be typed; check refuses it.
 #[test]
 fn past_the_limits() {
-    for text in ["(define e #4096)", "(define e #4294967295)", "(define e 007)", "(define e (proj S 65535 @s))", "(level 64)", "(name a.b.«\u{1}».18446744073709551615) (define e (Sort 64))"] {
+    for text in [
+        "(define e #4096)",
+        "(define e #4294967295)",
+        "(define e 007)",
+        "(define e (proj S 65535 @s))",
+        "(level 64)",
+        "(name a.b.«\u{1}».18446744073709551615) (define e (Sort 64))",
+    ] {
         assert_eq!(pack(text, Sharing::Shared).unwrap().pool.check().unwrap_err().number, 4, "{text}");
     }
     let deep = |n: usize| format!("(define e {}@c{})", "(@f ".repeat(n), ")".repeat(n));
     assert!(pack(&deep(255), Sharing::Shared).unwrap().pool.check().is_ok());
-    assert_eq!(pack(&deep(256), Sharing::Shared).unwrap().pool.check().unwrap_err().place, 257);
+    for n in [256, 4000] {
+        assert_eq!(pack(&deep(n), Sharing::Shared).unwrap().pool.check().unwrap_err().place, 257);
+    }
 }

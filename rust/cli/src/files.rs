@@ -7,14 +7,18 @@ use std::path::Path;
 use tilusorgu::{pool_file, Pool};
 
 /// No text form that anyone types comes near it.
-const MOST_TEXT: u64 = 1 << 26;
+const MOST_TEXT: u64 = 1 << 24;
 
 pub fn is_standard(path: &Path) -> bool {
     path == Path::new("-")
 }
 
 pub fn name(path: &Path) -> String {
-    if is_standard(path) { "standard input".to_string() } else { shown(&path.to_string_lossy()) }
+    if is_standard(path) {
+        "standard input".to_string()
+    } else {
+        shown(&path.to_string_lossy())
+    }
 }
 
 fn open(path: &Path) -> Result<Box<dyn Read>, Failure> {

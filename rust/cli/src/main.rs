@@ -32,7 +32,10 @@ pub enum Outcome {
 fn main() -> ExitCode {
     let arguments = std::env::args_os().skip(1).collect();
     // once for all calls, and for what walks deep texts
-    tilusorgu::with_stack(|| run(arguments))
+    tilusorgu::try_with_stack(|| run(arguments)).unwrap_or_else(|error| {
+        say(&format!("the system gives no thread with a stack of {} bytes: {error}", tilusorgu::STACK));
+        ExitCode::from(2)
+    })
 }
 
 fn run(arguments: Vec<std::ffi::OsString>) -> ExitCode {

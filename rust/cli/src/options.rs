@@ -19,7 +19,7 @@ tilusorgu pack FILE.txt [OPTION]..   makes a pool file of a text form
     --no-share                    each row typed is a row of its own, even if it equals another
 tilusorgu help, tilusorgu version
 
-FILE is a pool file, or - for standard input. Listings are separated by an empty line.
+--width 80 and --width=80 are the same. FILE is a pool file, or - for standard input. Listings are separated by an empty line.
 Status: 0 done; 1 something was refused; 2 wrong command line, wrong file, or no such name.
 docs/POOL-FILE.md has the pool file and the text form.
 ";
@@ -60,14 +60,23 @@ fn wrong<T>(what: impl Into<String>) -> Result<T, Failure> {
 struct Words {
     rest: std::vec::IntoIter<OsString>,
     file: Option<PathBuf>,
+    /// What stood behind the = of the last option.
+    joined: Option<OsString>,
 }
 
 impl Words {
     /// The next option. What is no option is the file.
     fn option(&mut self) -> Result<Option<String>, Failure> {
+        if let Some(value) = self.joined.take() {
+            return wrong(format!("the option before ={} takes no value", value.to_string_lossy()));
+        }
         for word in self.rest.by_ref() {
             match word.to_str() {
-                Some(option) if option.starts_with('-') && option != "-" => return Ok(Some(option.to_string())),
+                Some(option) if option.starts_with('-') && option != "-" => {
+                    let (name, value) = option.split_once('=').map_or((option, None), |(name, value)| (name, Some(value.into())));
+                    self.joined = value;
+                    return Ok(Some(name.to_string()));
+                }
                 _ if self.file.is_none() => self.file = Some(PathBuf::from(word)),
                 _ => return wrong(format!("one file is expected, and {} is a second one", word.to_string_lossy())),
             }
@@ -76,7 +85,7 @@ impl Words {
     }
 
     fn value(&mut self, option: &str) -> Result<OsString, Failure> {
-        self.rest.next().map_or_else(|| wrong(format!("{option} needs a value")), Ok)
+        self.joined.take().or_else(|| self.rest.next()).map_or_else(|| wrong(format!("{option} needs a value")), Ok)
     }
 
     fn text(&mut self, option: &str) -> Result<String, Failure> {
@@ -104,7 +113,7 @@ pub fn parse(arguments: Vec<OsString>) -> Result<Command, Failure> {
     let Some(command) = rest.next() else {
         return wrong("a command is expected: check, list or pack");
     };
-    let mut words = Words { rest, file: None };
+    let mut words = Words { rest, file: None, joined: None };
     match command.to_str() {
         Some("help" | "--help" | "-h") => Ok(Command::Help),
         Some("version" | "--version" | "-V") => Ok(Command::Version),

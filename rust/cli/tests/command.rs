@@ -61,7 +61,7 @@ fn lists_what_is_chosen() {
     // a name of two components, and one component with the same text
     assert_eq!(listed(&["--declar", "a.b"]).0, "axiom a.b : @C\n\naxiom «a.b» : @D\n");
     assert_eq!(listed(&["--declar", "2", "--expr", "0", "--declar", "0"]).0, "axiom «a.b» : @D\n\n@C\n\naxiom a.b : @C\n");
-    assert_eq!(listed(&["--declar", "1", "--width", "0", "--indent", "3"]).0, "def «odd one» :\n   @A →\n   @B :=\n   @c\n");
+    assert_eq!(listed(&["--declar=1", "--width=0", "--indent", "3"]).0, "def «odd one» :\n   @A →\n   @B :=\n   @c\n");
     let (output, messages, status) = listed(&["--declar", "0", "--counts"]);
     assert_eq!((output.as_str(), status), ("axiom a.b : @C\n", 0));
     assert!(messages.contains("listing length 14, lines 1, longest row 14"), "{messages}");
@@ -96,6 +96,8 @@ fn wrong_command_lines() {
         (&["check", "a", "--width", "3"], "check has no option --width"),
         (&["list", "a", "--wide"], "list has no option --wide"),
         (&["list", "a", "--width"], "--width needs a value"),
+        (&["list", "a", "--width="], "a number is expected"),
+        (&["list", "a", "--counts=1"], "takes no value"),
         (&["list", "a", "--width", "-1"], "a number is expected"),
         (&["list", "a", "--width", "4294967296"], "too large"),
         (&["list", "a", "--declar", "99999999999"], "too large"),

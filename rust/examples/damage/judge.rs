@@ -24,7 +24,11 @@ impl Areas {
 }
 
 pub fn need(condition: bool, what: &str) -> Result<(), String> {
-    if condition { Ok(()) } else { Err(what.to_string()) }
+    if condition {
+        Ok(())
+    } else {
+        Err(what.to_string())
+    }
 }
 
 /// `out` has the number, no counts after a refusal, and a place where the number has one. A short one is left alone.

@@ -5,6 +5,7 @@
 //!
 //! The inputs are tried in a process of their own, so that a crash or a call that does not end is seen, and at which input it was.
 //! The last line is 'N passed, M failed'.
+mod calls;
 mod corpus;
 #[path = "../../tests/common/guarded.rs"]
 mod guarded;

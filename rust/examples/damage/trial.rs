@@ -1,11 +1,12 @@
 //! One damaged input: the four calls on it, and what is wrong with their answers.
+use crate::calls;
 use crate::corpus::{Ask, Entry, Stock};
 use crate::guarded::Guarded;
 use crate::judge::{self, need, Areas};
 use crate::mutate;
 use crate::random::Random;
 use std::collections::BTreeMap;
-use tilusorgu::{raw, Given, Pool, Root, Sizes, Table};
+use tilusorgu::{Given, Pool, Root, Sizes, Table};
 
 /// How often each call ended with each number.
 #[derive(Default)]
@@ -55,7 +56,8 @@ fn pool_calls(stock: &Stock, r: &mut Random, tally: &mut Tally) -> Result<(), St
         let lengths = [(0, 7 * 16_384), (1, 65_536), (2, 1 << 17)].map(|(i, most)| mutate::length(r, ask.lengths[i], most));
         let sizes = (mutate::number(r, ask.sizes.indent), mutate::number(r, ask.sizes.width));
         let mut areas = Areas::new(lengths);
-        print(&pool, root, sizes, &mut areas, checked, r, tally).map_err(|what| format!("{root:?}, indent and width {sizes:?}, areas {lengths:?}: {what}"))?;
+        print(&pool, root, sizes, &mut areas, checked, r, tally)
+            .map_err(|what| format!("{root:?}, indent and width {sizes:?}, areas {lengths:?}: {what}"))?;
     }
     need(pool == before, "a call changed the pool")
 }
@@ -74,46 +76,27 @@ fn ask(entry: &Entry, table: Table, r: &mut Random) -> Ask {
 
 fn check(pool: &Pool, r: &mut Random, tally: &mut Tally) -> Result<(u32, u64), String> {
     let mut out = new_out(r);
-    // Sound: pointers and lengths of whole slices, which overlap nothing. So below.
-    let call = |out: &mut [u64]| unsafe {
-        raw::tilusorgu_check(pool.bytes.as_ptr(), pool.bytes.len(), pool.words.as_ptr(), pool.words.len(), out.as_mut_ptr(), out.len())
-    };
-    let number = call(out.area());
+    let number = calls::check(pool, &mut out);
     tally.count("check", number);
     judge::out(number, &out)?;
     need(number <= 4, "check refuses 1 to 4 alone")?;
     let mut again = long_out();
-    need(call(again.area()) == number, "check depends on the length of out")?;
+    need(calls::check(pool, &mut again) == number, "check depends on the length of out")?;
     Ok((number, again.seen()[1]))
 }
 
-fn print(pool: &Pool, root: Root, (indent, width): (u32, u32), areas: &mut Areas, checked: (u32, u64), r: &mut Random, tally: &mut Tally) -> Result<(), String> {
-    let (name, row, call): (_, _, unsafe extern "C" fn(_, _, _, _, _, _, _, _, _, _, _, _, _, _, _) -> u32) = match root {
-        Root::Expr(row) => ("print expression", row, raw::tilusorgu_print_expr),
-        Root::Declar(row) => ("print declaration", row, raw::tilusorgu_print_declar),
-    };
+fn print(
+    pool: &Pool,
+    root: Root,
+    (indent, width): (u32, u32),
+    areas: &mut Areas,
+    checked: (u32, u64),
+    r: &mut Random,
+    tally: &mut Tally,
+) -> Result<(), String> {
     let mut out = new_out(r);
-    let (rows, text, listing, lent_out) = (areas.rows.area(), areas.text.area(), areas.listing.area(), out.area());
-    let number = unsafe {
-        call(
-            pool.bytes.as_ptr(),
-            pool.bytes.len(),
-            pool.words.as_ptr(),
-            pool.words.len(),
-            row,
-            indent,
-            width,
-            rows.as_mut_ptr(),
-            rows.len(),
-            text.as_mut_ptr(),
-            text.len(),
-            listing.as_mut_ptr(),
-            listing.len(),
-            lent_out.as_mut_ptr(),
-            lent_out.len(),
-        )
-    };
-    tally.count(name, number);
+    let number = calls::print(pool, root, (indent, width), areas, &mut out);
+    tally.count(if matches!(root, Root::Expr(_)) { "print expression" } else { "print declaration" }, number);
     judge::out(number, &out)?;
     if out.seen().len() < 8 {
         // nothing more was said than the number
@@ -123,7 +106,11 @@ fn print(pool: &Pool, root: Root, (indent, width): (u32, u32), areas: &mut Areas
     judge::print_number(checked, answer, pool, root, indent, width)?;
     judge::print_areas(number, out.seen(), areas)?;
     judge::full_areas(answer, areas)?;
-    if number == 0 || number == 22 { laid_out_again(number, out.seen(), areas, width) } else { Ok(()) }
+    if number == 0 || number == 22 {
+        laid_out_again(number, out.seen(), areas, width)
+    } else {
+        Ok(())
+    }
 }
 
 /// The document that a print left is accepted by layout, and gives the same listing and counts, or after 22 a longer one.
@@ -159,7 +146,11 @@ fn layout_call(stock: &Stock, r: &mut Random, tally: &mut Tally) -> Result<(), S
     let (mut rows, mut text) = (document.rows.clone(), document.text.clone());
     if !r.one_in(6) {
         for _ in 0..1 + r.below(2) {
-            if r.one_in(4) { mutate::bytes(r, &mut text) } else { mutate::words(r, &mut rows) }
+            if r.one_in(4) {
+                mutate::bytes(r, &mut text)
+            } else {
+                mutate::words(r, &mut rows)
+            }
         }
     }
     let row_count = if r.one_in(20) { r.next() >> r.below(64) } else { document.rows.len() as u64 / 7 };
@@ -167,7 +158,7 @@ fn layout_call(stock: &Stock, r: &mut Random, tally: &mut Tally) -> Result<(), S
     let given = Given { rows: &rows, row_count, text: &text, text_count };
     let (width, length) = (mutate::number(r, document.width), mutate::length(r, 2 * document.text.len(), 1 << 17));
     let (mut listing, mut out) = (judge::bytes(length), new_out(r));
-    let number = layout(given, width, &mut listing, &mut out);
+    let number = calls::layout(given, width, &mut listing, &mut out);
     tally.count("layout", number);
     judge::out(number, &out)?;
     need(listing.intact(), "layout: a guard was written")?;
@@ -179,24 +170,5 @@ fn layout_call(stock: &Stock, r: &mut Random, tally: &mut Tally) -> Result<(), S
         }
         0 | 22 => Ok(()),
         _ => Err(format!("layout is never refused {number}")),
-    }
-}
-
-fn layout(given: Given<'_>, width: u32, listing: &mut Guarded<u8>, out: &mut Guarded<u64>) -> u32 {
-    let (listing, out) = (listing.area(), out.area());
-    unsafe {
-        raw::tilusorgu_layout(
-            given.rows.as_ptr(),
-            given.rows.len(),
-            given.row_count,
-            given.text.as_ptr(),
-            given.text.len(),
-            given.text_count,
-            width,
-            listing.as_mut_ptr(),
-            listing.len(),
-            out.as_mut_ptr(),
-            out.len(),
-        )
     }
 }

@@ -27,7 +27,15 @@ pub struct Expr<'a> {
 
 impl Builder {
     pub fn new(sharing: Sharing) -> Builder {
-        Builder { sharing, bytes: Vec::new(), tables: Default::default(), rows: HashMap::new(), strings: HashMap::new(), lists: HashMap::new(), after: Vec::new() }
+        Builder {
+            sharing,
+            bytes: Vec::new(),
+            tables: Default::default(),
+            rows: HashMap::new(),
+            strings: HashMap::new(),
+            lists: HashMap::new(),
+            after: Vec::new(),
+        }
     }
 
     /// A new row at the table's end; its number.

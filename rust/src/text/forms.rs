@@ -33,7 +33,10 @@ fn form(item: &Item, terms: &mut Terms, defined: &mut Vec<(String, u32)>) -> Res
         ("words", words) => words.iter().try_for_each(|w| number(w).map(|w| terms.builder.surplus(w)))?,
         _ => {
             let known = DECLARATIONS.join(", ");
-            return mistake(item.at, format!("no form looks like this: forms are {known}, define, string, name, level, levels, row, bytes and words"));
+            return mistake(
+                item.at,
+                format!("no form looks like this: forms are {known}, define, string, name, level, levels, row, bytes and words"),
+            );
         }
     }
     Ok(())

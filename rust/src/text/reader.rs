@@ -35,7 +35,10 @@ pub struct Item {
 #[derive(Debug)]
 pub enum Kind {
     /// A word; `levels` are the items of `.{ }` right behind it, if it has them.
-    Word { text: String, levels: Option<Vec<Item>> },
+    Word {
+        text: String,
+        levels: Option<Vec<Item>>,
+    },
     Quoted(Vec<u8>),
     List(Bracket, Vec<Item>),
 }
@@ -222,7 +225,16 @@ mod tests {
 
     #[test]
     fn mistakes_have_places() {
-        for (text, place) in [("(a", "1:1"), ("a\n )", "2:2"), ("(a]", "1:3"), ("\"a", "1:1"), ("«a", "1:1"), ("\"\\q\"", "1:2"), ("\"\\x4\"", "1:2"), ("\"\\x", "1:2")] {
+        for (text, place) in [
+            ("(a", "1:1"),
+            ("a\n )", "2:2"),
+            ("(a]", "1:3"),
+            ("\"a", "1:1"),
+            ("«a", "1:1"),
+            ("\"\\q\"", "1:2"),
+            ("\"\\x4\"", "1:2"),
+            ("\"\\x", "1:2"),
+        ] {
             let said = items(text).unwrap_err().to_string();
             assert!(said.starts_with(place), "{text}: {said}");
         }
