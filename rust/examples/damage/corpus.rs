@@ -1,8 +1,9 @@
-//! What is damaged: the recorded corpus (differential/README.md has its format) and the samples.
+//! What is damaged: the recorded corpus, the samples, and pools at the limits.
 use crate::limits;
+use crate::recorded::{self, Recorded};
 use std::path::Path;
 use tilusorgu::text::{pack, Sharing};
-use tilusorgu::{Areas, Pool, Root, Sizes, Table};
+use tilusorgu::{Areas, Counts, Pool, Root, Sizes, Table};
 
 /// A print that succeeds, and how long its areas have to be.
 #[derive(Clone, Copy)]
@@ -29,59 +30,30 @@ pub struct Stock {
     pub documents: Vec<Document>,
 }
 
-const HEAD: usize = 16;
-
-/// The words of the corpus file, taken from the front.
-struct Words<'a>(&'a [u32]);
-
-impl<'a> Words<'a> {
-    fn take(&mut self, count: usize) -> &'a [u32] {
-        let (first, rest) = self.0.split_at(count);
-        self.0 = rest;
-        first
-    }
-
-    /// A run of bytes, padded to whole words.
-    fn bytes(&mut self, count: usize) -> Vec<u8> {
-        let mut bytes: Vec<u8> = self.take(count.div_ceil(4)).iter().flat_map(|w| w.to_le_bytes()).collect();
-        bytes.truncate(count);
-        bytes
-    }
+/// How long the areas of a print with these counts have to be.
+fn lengths(counts: &Counts) -> [usize; 3] {
+    [7 * counts.document_rows, counts.text_bytes, counts.listing_length].map(|n| n as usize)
 }
 
 impl Stock {
     pub fn read() -> Stock {
         let top = Path::new(env!("CARGO_MANIFEST_DIR")).parent().expect("the crate stands in the repository");
         let mut stock = Stock::default();
-        let file = std::fs::read(top.join("differential/corpus/prints.bin")).expect("the recorded corpus");
-        let words: Vec<u32> = file.chunks_exact(4).map(|w| u32::from_le_bytes(w.try_into().expect("four bytes"))).collect();
-        stock.corpus(Words(&words));
+        recorded::read().into_iter().for_each(|r| stock.recorded(r));
         stock.samples(&top.join("samples"));
         stock.limits();
         stock
     }
 
-    fn corpus(&mut self, mut words: Words<'_>) {
-        let head = words.take(HEAD);
-        assert_eq!((head[0], head[1]), (u32::from_le_bytes(*b"TIL1"), 1), "the corpus has another format");
-        for _ in 0..head[2] {
-            let record = words.take(HEAD);
-            let pool = Pool { bytes: words.bytes(record[2] as usize), words: words.take(record[3] as usize).to_vec() };
-            let asks = (0..record[4]).map(|_| self.print(&mut words)).collect();
-            self.pools.push(Entry { pool, asks });
+    fn recorded(&mut self, recorded: Recorded) {
+        let mut asks = Vec::new();
+        for print in recorded.prints {
+            asks.push(Ask { root: print.root, sizes: print.sizes, lengths: lengths(&print.counts) });
+            if let Some((rows, text)) = print.document {
+                self.documents.push(Document { rows, text, width: print.sizes.width });
+            }
         }
-    }
-
-    fn print(&mut self, words: &mut Words<'_>) -> Ask {
-        let record = words.take(HEAD);
-        let [rows, text, listing] = [record[6], record[7], record[8]].map(|n| n as usize);
-        words.bytes(listing);
-        if record[12] == 1 {
-            let rows = words.take(7 * rows).to_vec();
-            self.documents.push(Document { rows, text: words.bytes(text), width: record[5] });
-        }
-        let root = if record[2] == 0 { Root::Expr(record[3]) } else { Root::Declar(record[3]) };
-        Ask { root, sizes: Sizes { indent: record[4], width: record[5] }, lengths: [7 * rows, text, listing] }
+        self.pools.push(Entry { pool: recorded.pool, asks });
     }
 
     fn samples(&mut self, folder: &Path) {
@@ -103,8 +75,7 @@ impl Stock {
         for row in 0..pool.count(Table::Declars) {
             let (root, sizes) = (Root::Declar(row), Sizes { indent: 2, width: 20 + 10 * row });
             if let Ok(counts) = areas.print(&pool, root, sizes) {
-                let lengths = [7 * counts.document_rows, counts.text_bytes, counts.listing_length].map(|n| n as usize);
-                asks.push(Ask { root, sizes, lengths });
+                asks.push(Ask { root, sizes, lengths: lengths(&counts) });
                 let document = areas.document(&counts);
                 self.documents.push(Document { rows: document.rows.to_vec(), text: document.text.to_vec(), width: sizes.width });
             }

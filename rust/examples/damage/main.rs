@@ -14,6 +14,8 @@ mod judge;
 mod limits;
 mod mutate;
 mod random;
+#[path = "../../tests/common/recorded.rs"]
+mod recorded;
 mod trial;
 
 use std::os::unix::fs::FileExt;
