@@ -1,6 +1,7 @@
 //! Pools, their tables, and what to say of a row.
 use crate::refusal::Refusal;
 use crate::rules::rule;
+use std::borrow::Cow;
 
 /// A byte area and words: seven counts, then the tables in the order of [`Table`].
 #[derive(Clone, Debug, Default, PartialEq, Eq)]
@@ -70,25 +71,61 @@ impl Pool {
         self.bytes.get(at..at.checked_add(length)?)
     }
 
-    /// The components of a name row joined by "." as listings have them, without the marks « ». Nothing if the rows do not hold.
-    pub fn name_text(&self, row: u32) -> Option<String> {
+    /// The components of a name row, numbers as digits, the first one first. Nothing if the rows do not hold.
+    fn components(&self, row: u32) -> Option<Vec<Cow<'_, [u8]>>> {
         let (mut components, mut at) = (Vec::new(), row);
         loop {
             let r = self.row(Table::Names, u64::from(at))?;
-            match r[0] {
+            components.push(match r[0] {
                 0 => break,
-                1 => components.push(String::from_utf8(self.string(r[2])?.to_vec()).ok()?),
-                _ => components.push((u64::from(r[2]) | u64::from(r[3]) << 32).to_string()),
-            }
+                1 => Cow::Borrowed(self.string(r[2])?),
+                _ => Cow::Owned((u64::from(r[2]) | u64::from(r[3]) << 32).to_string().into_bytes()),
+            });
             // a prefix is a lower row, so this ends
             at = Some(r[1]).filter(|&prefix| prefix < at)?;
         }
-        Some(components.iter().rev().fold(String::new(), |text, c| if text.is_empty() { c.clone() } else { text + "." + c }))
+        components.reverse();
+        Some(components)
     }
 
-    /// The name of a declaration row, as [`Pool::name_text`] has it.
-    pub fn declar_name(&self, row: u32) -> Option<String> {
-        self.name_text(self.row(Table::Declars, u64::from(row))?[1])
+    /// The pieces whose bytes are the name's text as listings have it, without the marks « »: components joined by ".", none after an
+    /// empty text. A name can be far longer than the pool, so it is not put together here.
+    fn name_pieces(&self, row: u32) -> Option<Vec<Cow<'_, [u8]>>> {
+        let (mut pieces, mut empty) = (Vec::new(), true);
+        for component in self.components(row)? {
+            if !empty {
+                pieces.push(Cow::Borrowed(&b"."[..]));
+            }
+            empty = empty && component.is_empty();
+            pieces.push(component);
+        }
+        Some(pieces)
+    }
+
+    fn declar_pieces(&self, row: u32) -> Option<Vec<Cow<'_, [u8]>>> {
+        self.name_pieces(self.row(Table::Declars, u64::from(row))?[1])
+    }
+
+    /// Is this the name of a declaration row as listings have it, without the marks « »?
+    pub fn declar_has_name(&self, row: u32, name: &str) -> bool {
+        let Some(pieces) = self.declar_pieces(row) else {
+            return false;
+        };
+        let rest = pieces.iter().try_fold(name.as_bytes(), |rest, piece| rest.strip_prefix(&piece[..]));
+        rest.is_some_and(<[u8]>::is_empty)
+    }
+
+    /// The name of a declaration row for a message: at most so many bytes of it, then two dots.
+    pub fn declar_title(&self, row: u32, most: usize) -> Option<String> {
+        let mut title = Vec::new();
+        for piece in self.declar_pieces(row)? {
+            let room = most - title.len();
+            title.extend(piece.iter().take(room));
+            if piece.len() > room {
+                return Some(String::from_utf8_lossy(&title).into_owned() + "..");
+            }
+        }
+        Some(String::from_utf8_lossy(&title).into_owned())
     }
 
     /// The table in which a pool is refused 3 or 4: the first one with which, the tables after it left out, it still is.

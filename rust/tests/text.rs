@@ -51,6 +51,22 @@ fn groups() {
 }
 
 #[test]
+fn names_of_declarations() {
+    let names = ["_", "a.«b c».5", "«».«».a.«».b", "«»", "7"];
+    let text: String = names.iter().map(|n| format!("(axiom {n} @C)")).collect();
+    let pool = pack(&text, Sharing::Shared).unwrap().pool;
+    for (row, name) in ["", "a.b c.5", "a..b", "", "7"].into_iter().enumerate() {
+        let row = row as u32;
+        assert_eq!(pool.declar_title(row, 100).as_deref(), Some(name));
+        assert!(pool.declar_has_name(row, name) && !pool.declar_has_name(row, "a") && !pool.declar_has_name(row, "a.b c.5."));
+        let printed = pool.list_declar(row, Sizes::default()).unwrap().text.replace(['«', '»'], "");
+        assert_eq!(printed, format!("axiom {name} : @C"));
+    }
+    assert_eq!(pool.declar_title(1, 4).as_deref(), Some("a.b .."));
+    assert!(pool.declar_title(5, 100).is_none() && !pool.declar_has_name(5, ""));
+}
+
+#[test]
 fn sharing() {
     let text = "(define e (@f (@g @a) (@g @a)))";
     let rows = |sharing| pack(text, sharing).unwrap().pool.count(Table::Exprs);

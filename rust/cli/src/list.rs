@@ -8,6 +8,9 @@ use std::io::{self, BufWriter, Write};
 use std::path::Path;
 use tilusorgu::{Areas, Counts, Pool, Refusal, Root, Table};
 
+/// Bytes of a name that a message shows.
+const TITLE: usize = 100;
+
 /// An accepted pool.
 fn accepted(path: &Path) -> Result<Pool, Failure> {
     let pool = files::read_pool(path)?;
@@ -36,7 +39,7 @@ fn roots(pool: &Pool, chosen: &[Chosen]) -> Result<Vec<Root>, Failure> {
             Chosen::Expr(row) => roots.push(Root::Expr(*row)),
             Chosen::Name(name) => {
                 let before = roots.len();
-                roots.extend(all.clone().filter(|&row| pool.declar_name(row).as_deref() == Some(name)).map(Root::Declar));
+                roots.extend(all.clone().filter(|&row| pool.declar_has_name(row, name)).map(Root::Declar));
                 if roots.len() == before {
                     return Err(Failure::Trouble(format!("no declaration is named {} (the pool has {} declarations)", shown(name), all.len())));
                 }
@@ -50,7 +53,7 @@ fn roots(pool: &Pool, chosen: &[Chosen]) -> Result<Vec<Root>, Failure> {
 fn titled(pool: &Pool, root: Root) -> String {
     match root {
         Root::Expr(row) => format!("expression row {row}"),
-        Root::Declar(row) => match pool.declar_name(row) {
+        Root::Declar(row) => match pool.declar_title(row, TITLE) {
             Some(name) => format!("declaration row {row} ({})", shown(&name)),
             None => format!("declaration row {row}"),
         },
