@@ -120,3 +120,30 @@ fn past_the_limits() {
         assert_eq!(pack(&deep(n), Sharing::Shared).unwrap().pool.check().unwrap_err().place, 257);
     }
 }
+
+/// The samples with a character taken away or another one in its place: a pool or a mistake with a place, never a panic.
+#[test]
+fn damaged_texts() {
+    let signs: Vec<char> = "(){}[]\"«».#@$:_0-\\ \n".chars().collect();
+    let (mut packed, mut mistakes) = (0, 0);
+    for file in std::fs::read_dir(concat!(env!("CARGO_MANIFEST_DIR"), "/../samples")).unwrap() {
+        let path = file.unwrap().path();
+        if path.extension().is_none_or(|e| e != "txt") {
+            continue;
+        }
+        let text: Vec<char> = std::fs::read_to_string(path).unwrap().chars().collect();
+        for at in 0..text.len() {
+            let mut damaged = text.clone();
+            match at % 4 {
+                0 => drop(damaged.remove(at)),
+                1 => damaged.truncate(at),
+                _ => damaged[at] = signs[at % signs.len()],
+            }
+            match pack(&damaged.iter().collect::<String>(), Sharing::Shared) {
+                Ok(p) => packed += usize::from(p.pool.check().is_ok()),
+                Err(mistake) => mistakes += usize::from(mistake.at.line > 0 && !mistake.what.is_empty()),
+            }
+        }
+    }
+    assert!(packed > 1000 && mistakes > 1000, "{packed} and {mistakes}");
+}
