@@ -1,0 +1,36 @@
+/* Prints one declaration of a pool typed by hand, `axiom k : @C`, and shows what a refusal looks like. */
+#include "tilusorgu.h"
+#include <inttypes.h>
+#include <stdio.h>
+
+static const uint8_t bytes[] = {'k', 'C'};
+static const uint32_t words[] = {
+    2, 3, 0, 1, 0, 1, 1,                 /* counts: strings, names, levels, lists, list words, expressions, declarations */
+    0, 1, 1, 1,                          /* strings: "k", "C" */
+    0, 0, 0, 0, 1, 0, 0, 0, 1, 0, 1, 0,  /* names: anonymous, k, C */
+    0, 0,                                /* lists: one of no levels */
+    2, 2, 0, 0, 0, 0, 1, 0,              /* expressions: the constant C; depth 1, nothing loose */
+    0, 1, 0, 0, 0                        /* declarations: the axiom k of that type */
+};
+
+/* Long enough for every document, and for every listing of this pool. */
+static uint32_t rows[TILUSORGU_ROW_WORDS * TILUSORGU_DOCUMENT_ROWS];
+static uint8_t text[TILUSORGU_DOCUMENT_BYTES];
+static uint8_t listing[4096];
+
+static int print_declar(uint32_t root) {
+    uint64_t out[TILUSORGU_OUT];
+    uint32_t number = tilusorgu_print_declar(bytes, sizeof bytes, words, sizeof words / sizeof *words, root, 2, 80, rows,
+                                             sizeof rows / sizeof *rows, text, sizeof text, listing, sizeof listing, out, TILUSORGU_OUT);
+    if (number != TILUSORGU_DONE) {
+        printf("refused %" PRIu32 ", place %" PRIu64 "\n", number, out[1]);
+        return 1;
+    }
+    printf("%.*s\n", (int)out[4], (const char *)listing);
+    return 0;
+}
+
+int main(void) {
+    int first = print_declar(0), second = print_declar(1);
+    return first == 0 && second == 1 ? 0 : 1;
+}

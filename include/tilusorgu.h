@@ -1,0 +1,117 @@
+/*
+ * The statement lister's calls, for C. `rt staticlib lister_c` writes the library, target/staticlib/liblister_c.a (x86-64).
+ *
+ * Slices. A slice is a pointer and, straight after it, a length in elements (not in bytes). The pointer of an empty slice
+ * is not read, but it must not be null and must be aligned for its elements.
+ *
+ * Areas. What a call reads is given; what it may write is lent. The areas of one call overlap nothing: not each other, not a
+ * given slice, not `out`. Given slices must not change during the call. A call keeps no pointer, allocates nothing and
+ * holds no state, so calls in several threads do not disturb each other.
+ *
+ * Machine stack. 8 MiB are enough for every call; the main thread has them as a rule, other threads often have less.
+ *
+ * Answers. Each call returns the refusal number, 0 for none, and fills `out`, eight numbers of 64 bits:
+ *
+ *     out[0] number          the refusal number again
+ *     out[1] place           see the numbers below; 0 for a success
+ *     out[2] document rows   of the success; 0 for check and for a refusal, as all below
+ *     out[3] text bytes      of the document
+ *     out[4] listing length  in bytes: the listing is the first so many bytes of its area
+ *     out[5] lines           bytes of value 10 in the listing, plus 1
+ *     out[6] longest row     in bytes, indentation included
+ *     out[7] fit tests       groups that were tested for fitting into their row
+ *
+ * An `out` of more than eight has only its first eight written. With an `out` shorter than eight nothing is written into it,
+ * and the call does and returns the same.
+ */
+#ifndef TILUSORGU_H
+#define TILUSORGU_H
+
+#include <stddef.h>
+#include <stdint.h>
+
+#ifdef __cplusplus
+extern "C" {
+#endif
+
+/* Refusal numbers, and what their place is. */
+enum tilusorgu_number {
+    TILUSORGU_DONE = 0,          /* not refused */
+    TILUSORGU_WORDS = 1,         /* the words are short of the head, or their total is wrong; place 0 */
+    TILUSORGU_LIMIT = 2,         /* a count or the byte area is over its limit; place 0 */
+    TILUSORGU_STRING = 3,        /* a string pair breaks its rule; place: the first such string row */
+    TILUSORGU_ROW = 4,           /* another row breaks its rule; place: the first such row, numbered in its table */
+    TILUSORGU_ROOT = 5,          /* no such root; place 0 */
+    TILUSORGU_SIZES = 6,         /* indent over 64, or width over 65,535; place 0 */
+    TILUSORGU_STACK = 7,         /* a chain or a let brings the names in force over 1,024; place: the row of the chain's start or of the let */
+    TILUSORGU_DOCUMENT = 8,      /* a text byte or a row past the document's limits; place: document rows written so far */
+    TILUSORGU_GIVEN = 9,         /* a given document breaks a row rule, or its counts; place: the first such row, 0 for counts */
+    TILUSORGU_ROW_AREA = 20,     /* row area full; place: document rows written so far */
+    TILUSORGU_TEXT_AREA = 21,    /* text area full; place: document rows written so far */
+    TILUSORGU_LISTING_AREA = 22  /* the listing is longer than its area; place 0 */
+};
+
+/* Limits. */
+#define TILUSORGU_POOL_BYTES 16777216u   /* bytes of a pool */
+#define TILUSORGU_TABLE_ROWS 65536u      /* rows of each of a pool's tables */
+#define TILUSORGU_DOCUMENT_ROWS 16384u   /* rows of a document */
+#define TILUSORGU_ROW_WORDS 7u           /* words of a document row: a row area of 7 * 16,384 words is never full */
+#define TILUSORGU_DOCUMENT_BYTES 65536u  /* text bytes of a document: a text area of so many bytes is never full */
+#define TILUSORGU_INDENT 64u             /* greatest indent */
+#define TILUSORGU_WIDTH 65535u           /* greatest width, in bytes */
+#define TILUSORGU_OUT 8u                 /* numbers of `out` */
+
+/*
+ * A pool is a byte area and words: seven head words, the counts of strings, names, levels, lists, list words, expressions and
+ * declarations, each at most 65,536; then these tables in that order, with 2, 4, 3, 2, 1, 8 and 5 words a row. Rows number from
+ * 0, and unused words are 0. docs/POOL-FILE.md has the tables, row by row.
+ */
+
+/*
+ * Is the pool accepted? Given: the pool. Lent: nothing.
+ * Refuses 1 to 4, in that order; tables in order, rows rising. For a success, out is all zeros.
+ */
+uint32_t tilusorgu_check(const uint8_t *bytes, size_t byte_count, const uint32_t *words, size_t word_count, uint64_t *out, size_t out_count);
+
+/*
+ * Prints the expression in row `root` of the pool, with steps of `indent` spaces, in rows of `width` bytes where they can be broken.
+ * Given: the pool, root, indent, width. Lent: rows (the document, seven words a row), text (the document's texts), listing.
+ *
+ * Refuses 1 to 4 as check does, then 5, then 6; then, whichever the walk over the document meets first, 7, 8, 20 or 21 (8 before
+ * 20 and 21; a text's bytes before its row); then 22.
+ *
+ * What the lent areas hold afterwards:
+ *     1 to 6          all three as they were
+ *     7, 8, 20, 21    rows and text all zero; listing as it was
+ *     22              rows and text: the document, then zeros; listing: the first bytes of the full listing, as many as fit
+ *     success         rows and text: the document, then zeros; listing: the listing, and past its length as it was
+ */
+uint32_t tilusorgu_print_expr(const uint8_t *bytes, size_t byte_count, const uint32_t *words, size_t word_count, uint32_t root,
+                              uint32_t indent, uint32_t width, uint32_t *rows, size_t row_words, uint8_t *text, size_t text_bytes,
+                              uint8_t *listing, size_t listing_bytes, uint64_t *out, size_t out_count);
+
+/* Prints the declaration in row `root` of the pool; else as tilusorgu_print_expr. */
+uint32_t tilusorgu_print_declar(const uint8_t *bytes, size_t byte_count, const uint32_t *words, size_t word_count, uint32_t root,
+                                uint32_t indent, uint32_t width, uint32_t *rows, size_t row_words, uint8_t *text, size_t text_bytes,
+                                uint8_t *listing, size_t listing_bytes, uint64_t *out, size_t out_count);
+
+/*
+ * Lays out a given document at a width: the first `row_count` rows of `rows` and the first `text_count` bytes of `text`, as a print
+ * left them. Given: rows, row_count, text, text_count, width. Lent: listing.
+ *
+ * A row has seven words: kind, two fields (0 if unused), rows of its subtree, flat size, distance to the first break (flat size if
+ * there is none), has-break. Kinds: 0 text (offset, length; texts are contiguous from 0), 1 join, 2 break (its blank's length, 0 or
+ * 1), 3 nest (amount, up to 64), 4 group. A row stands straight after its children's subtrees, the left one first; the last row's
+ * subtree is the whole document, rows and text bytes.
+ *
+ * Refuses 9, then 6 (width), then 22. After 9 and 6 the listing area is as it was; after 22 it holds the first bytes of the full
+ * listing, as many as fit; a success leaves it as it was past the listing.
+ */
+uint32_t tilusorgu_layout(const uint32_t *rows, size_t row_words, uint64_t row_count, const uint8_t *text, size_t text_bytes,
+                          uint64_t text_count, uint32_t width, uint8_t *listing, size_t listing_bytes, uint64_t *out, size_t out_count);
+
+#ifdef __cplusplus
+}
+#endif
+
+#endif

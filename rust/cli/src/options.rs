@@ -1,0 +1,171 @@
+//! The command line.
+use crate::Failure;
+use std::ffi::OsString;
+use std::path::PathBuf;
+use tilusorgu::text::Sharing;
+use tilusorgu::Sizes;
+
+pub const HELP: &str = "\
+tilusorgu check FILE              is the pool accepted?
+tilusorgu list FILE [OPTION]..    lists declarations and expressions of a pool
+    --declar NAME|ROW             this declaration, by its row or by its name as listings have it (all of that name); may be repeated
+    --expr ROW                    this expression; may be repeated
+                                  (without --declar and --expr: all declarations)
+    --indent N                    spaces of a step of indentation, 0 to 64 (2)
+    --width N                     width of a row in bytes, 0 to 65535 (120)
+    --counts                      the counts of each listing, on standard error
+tilusorgu pack FILE.txt [OPTION]..   makes a pool file of a text form
+    -o FILE                       the pool file (FILE.pool beside the text; - is standard output)
+    --no-share                    each row typed is a row of its own, even if it equals another
+tilusorgu help, tilusorgu version
+
+--width 80 and --width=80 are the same. FILE is a pool file, or - for standard input. Listings are separated by an empty line.
+Status: 0 done; 1 something was refused; 2 wrong command line, wrong file, or no such name.
+docs/POOL-FILE.md has the pool file and the text form.
+";
+
+pub enum Command {
+    Help,
+    Version,
+    Check(PathBuf),
+    List(List),
+    Pack(Pack),
+}
+
+/// What to list.
+pub enum Chosen {
+    Name(String),
+    Declar(u32),
+    Expr(u32),
+}
+
+pub struct List {
+    pub file: PathBuf,
+    pub chosen: Vec<Chosen>,
+    pub sizes: Sizes,
+    pub counts: bool,
+}
+
+pub struct Pack {
+    pub file: PathBuf,
+    pub out: Option<PathBuf>,
+    pub sharing: Sharing,
+}
+
+fn wrong<T>(what: impl Into<String>) -> Result<T, Failure> {
+    Err(Failure::Usage(what.into()))
+}
+
+/// The words of a command line, taken one by one.
+struct Words {
+    rest: std::vec::IntoIter<OsString>,
+    file: Option<PathBuf>,
+    /// What stood behind the = of the last option.
+    joined: Option<OsString>,
+}
+
+impl Words {
+    /// The next option. What is no option is the file.
+    fn option(&mut self) -> Result<Option<String>, Failure> {
+        if let Some(value) = self.joined.take() {
+            return wrong(format!("the option before ={} takes no value", value.to_string_lossy()));
+        }
+        for word in self.rest.by_ref() {
+            match word.to_str() {
+                Some(option) if option.starts_with('-') && option != "-" => {
+                    let (name, value) = option.split_once('=').map_or((option, None), |(name, value)| (name, Some(value.into())));
+                    self.joined = value;
+                    return Ok(Some(name.to_string()));
+                }
+                _ if self.file.is_none() => self.file = Some(PathBuf::from(word)),
+                _ => return wrong(format!("one file is expected, and {} is a second one", word.to_string_lossy())),
+            }
+        }
+        Ok(None)
+    }
+
+    fn value(&mut self, option: &str) -> Result<OsString, Failure> {
+        self.joined.take().or_else(|| self.rest.next()).map_or_else(|| wrong(format!("{option} needs a value")), Ok)
+    }
+
+    fn text(&mut self, option: &str) -> Result<String, Failure> {
+        self.value(option)?.into_string().or_else(|value| wrong(format!("{option} {}: not UTF-8", value.to_string_lossy())))
+    }
+
+    fn number(&mut self, option: &str) -> Result<u32, Failure> {
+        number(option, &self.text(option)?)
+    }
+
+    fn file(self) -> Result<PathBuf, Failure> {
+        self.file.map_or_else(|| wrong("a file is expected"), Ok)
+    }
+}
+
+fn number(option: &str, text: &str) -> Result<u32, Failure> {
+    if text.is_empty() || !text.bytes().all(|b| b.is_ascii_digit()) {
+        return wrong(format!("{option} {text}: a number is expected"));
+    }
+    text.parse().or_else(|_| wrong(format!("{option} {text}: the number is too large")))
+}
+
+pub fn parse(arguments: Vec<OsString>) -> Result<Command, Failure> {
+    let mut rest = arguments.into_iter();
+    let Some(command) = rest.next() else {
+        return wrong("a command is expected: check, list or pack");
+    };
+    let mut words = Words { rest, file: None, joined: None };
+    match command.to_str() {
+        Some("help" | "--help" | "-h") => Ok(Command::Help),
+        Some("version" | "--version" | "-V") => Ok(Command::Version),
+        Some("check") => match words.option()? {
+            Some(option) => unknown(&option, "check"),
+            None => Ok(Command::Check(words.file()?)),
+        },
+        Some("list") => list(words),
+        Some("pack") => pack(words),
+        _ => wrong(format!("there is no command {}", command.to_string_lossy())),
+    }
+}
+
+fn unknown(option: &str, command: &str) -> Result<Command, Failure> {
+    match option {
+        "--help" | "-h" => Ok(Command::Help),
+        _ => wrong(format!("{command} has no option {option}")),
+    }
+}
+
+fn list(mut words: Words) -> Result<Command, Failure> {
+    let (mut chosen, mut sizes, mut counts) = (Vec::new(), Sizes::default(), false);
+    while let Some(option) = words.option()? {
+        match option.as_str() {
+            "--declar" => chosen.push(declar(words.text("--declar")?)?),
+            "--expr" => chosen.push(Chosen::Expr(words.number("--expr")?)),
+            "--indent" => sizes.indent = words.number("--indent")?,
+            "--width" => sizes.width = words.number("--width")?,
+            "--counts" => counts = true,
+            _ => return unknown(&option, "list"),
+        }
+    }
+    Ok(Command::List(List { file: words.file()?, chosen, sizes, counts }))
+}
+
+/// Digits are a row; a name may stand in the marks that listings put round odd ones.
+fn declar(text: String) -> Result<Chosen, Failure> {
+    if !text.is_empty() && text.bytes().all(|b| b.is_ascii_digit()) {
+        return Ok(Chosen::Declar(number("--declar", &text)?));
+    }
+    let bare = text.strip_prefix('«').and_then(|t| t.strip_suffix('»'));
+    Ok(Chosen::Name(bare.unwrap_or(&text).to_string()))
+}
+
+fn pack(mut words: Words) -> Result<Command, Failure> {
+    let (mut out, mut sharing) = (None, Sharing::Shared);
+    while let Some(option) = words.option()? {
+        match option.as_str() {
+            "-o" => out = Some(PathBuf::from(words.value("-o")?)),
+            "--no-share" => sharing = Sharing::Apart,
+            _ => return unknown(&option, "pack"),
+        }
+    }
+    Ok(Command::Pack(Pack { file: words.file()?, out, sharing }))
+}

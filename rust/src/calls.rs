@@ -1,0 +1,140 @@
+//! The four calls over slices. What they answer and what they leave in the lent areas: include/tilusorgu.h.
+use crate::raw;
+use crate::refusal::Refusal;
+use crate::stack::with_stack;
+
+/// Words of a document row.
+pub const ROW_WORDS: usize = 7;
+/// A row area of this many words is never full.
+pub const MOST_ROW_WORDS: usize = ROW_WORDS * 16_384;
+/// A text area of this many bytes is never full.
+pub const MOST_TEXT_BYTES: usize = 65_536;
+
+/// What a success reports.
+#[derive(Clone, Copy, Debug, Default, PartialEq, Eq)]
+pub struct Counts {
+    pub document_rows: u64,
+    pub text_bytes: u64,
+    pub listing_length: u64,
+    /// Bytes of value 10 in the listing, plus 1.
+    pub lines: u64,
+    /// In bytes, indentation included.
+    pub longest_row: u64,
+    pub fit_tests: u64,
+}
+
+/// Steps of indentation in spaces (at most 64) and width of a row in bytes (at most 65,535).
+#[derive(Clone, Copy, Debug, PartialEq, Eq)]
+pub struct Sizes {
+    pub indent: u32,
+    pub width: u32,
+}
+
+impl Default for Sizes {
+    /// Those of the published printer.
+    fn default() -> Sizes {
+        Sizes { indent: 2, width: 120 }
+    }
+}
+
+/// The areas that a print may write.
+#[derive(Debug)]
+pub struct Lent<'a> {
+    pub rows: &'a mut [u32],
+    pub text: &'a mut [u8],
+    pub listing: &'a mut [u8],
+}
+
+/// A document that is given to [`layout`]: the first rows and bytes of two slices.
+#[derive(Clone, Copy, Debug)]
+pub struct Given<'a> {
+    pub rows: &'a [u32],
+    pub row_count: u64,
+    pub text: &'a [u8],
+    pub text_count: u64,
+}
+
+fn answer(number: u32, out: &[u64; 8]) -> Result<Counts, Refusal> {
+    if number != 0 {
+        return Err(Refusal { number, place: out[1] });
+    }
+    let [_, _, document_rows, text_bytes, listing_length, lines, longest_row, fit_tests] = *out;
+    Ok(Counts { document_rows, text_bytes, listing_length, lines, longest_row, fit_tests })
+}
+
+/// Is the pool accepted? Refuses 1 to 4.
+pub fn check(bytes: &[u8], words: &[u32]) -> Result<(), Refusal> {
+    let mut out = [0; 8];
+    // Sound: each pointer goes with its own slice's length, and `out` is this function's alone.
+    let number = with_stack(|| unsafe { raw::tilusorgu_check(bytes.as_ptr(), bytes.len(), words.as_ptr(), words.len(), out.as_mut_ptr(), 8) });
+    answer(number, &out).map(|_| ())
+}
+
+/// Which table a print's root is a row of.
+#[derive(Clone, Copy, Debug, PartialEq, Eq)]
+pub enum Root {
+    Expr(u32),
+    Declar(u32),
+}
+
+/// Prints an expression or a declaration into lent areas. Refuses 1 to 8 and 20 to 22.
+pub fn print(bytes: &[u8], words: &[u32], root: Root, sizes: Sizes, lent: Lent<'_>) -> Result<Counts, Refusal> {
+    let (call, row): (unsafe extern "C" fn(_, _, _, _, _, _, _, _, _, _, _, _, _, _, _) -> u32, u32) = match root {
+        Root::Expr(row) => (raw::tilusorgu_print_expr, row),
+        Root::Declar(row) => (raw::tilusorgu_print_declar, row),
+    };
+    let mut out = [0; 8];
+    // Sound: each pointer goes with its own slice's length, and exclusive borrows overlap nothing.
+    let number = with_stack(|| unsafe {
+        call(
+            bytes.as_ptr(),
+            bytes.len(),
+            words.as_ptr(),
+            words.len(),
+            row,
+            sizes.indent,
+            sizes.width,
+            lent.rows.as_mut_ptr(),
+            lent.rows.len(),
+            lent.text.as_mut_ptr(),
+            lent.text.len(),
+            lent.listing.as_mut_ptr(),
+            lent.listing.len(),
+            out.as_mut_ptr(),
+            8,
+        )
+    });
+    answer(number, &out)
+}
+
+/// [`print`] of the expression in this row.
+pub fn print_expr(bytes: &[u8], words: &[u32], root: u32, sizes: Sizes, lent: Lent<'_>) -> Result<Counts, Refusal> {
+    print(bytes, words, Root::Expr(root), sizes, lent)
+}
+
+/// [`print`] of the declaration in this row.
+pub fn print_declar(bytes: &[u8], words: &[u32], root: u32, sizes: Sizes, lent: Lent<'_>) -> Result<Counts, Refusal> {
+    print(bytes, words, Root::Declar(root), sizes, lent)
+}
+
+/// Lays out a given document. Refuses 9, 6 and 22.
+pub fn layout(given: Given<'_>, width: u32, listing: &mut [u8]) -> Result<Counts, Refusal> {
+    let mut out = [0; 8];
+    // Sound: as above; that the counts may exceed their slices is for the call to refuse.
+    let number = with_stack(|| unsafe {
+        raw::tilusorgu_layout(
+            given.rows.as_ptr(),
+            given.rows.len(),
+            given.row_count,
+            given.text.as_ptr(),
+            given.text.len(),
+            given.text_count,
+            width,
+            listing.as_mut_ptr(),
+            listing.len(),
+            out.as_mut_ptr(),
+            8,
+        )
+    });
+    answer(number, &out)
+}

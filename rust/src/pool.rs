@@ -1,0 +1,164 @@
+//! Pools, their tables, and what to say of a row.
+use crate::refusal::Refusal;
+use crate::rules::rule;
+use std::borrow::Cow;
+
+/// A byte area and words: seven counts, then the tables in the order of [`Table`].
+#[derive(Clone, Debug, Default, PartialEq, Eq)]
+pub struct Pool {
+    pub bytes: Vec<u8>,
+    pub words: Vec<u32>,
+}
+
+/// A pool's tables in their order.
+#[derive(Clone, Copy, Debug, PartialEq, Eq, Hash)]
+pub enum Table {
+    Strings,
+    Names,
+    Levels,
+    Lists,
+    ListWords,
+    Exprs,
+    Declars,
+}
+
+impl Table {
+    pub const ALL: [Table; 7] = [Table::Strings, Table::Names, Table::Levels, Table::Lists, Table::ListWords, Table::Exprs, Table::Declars];
+
+    /// Words of a row.
+    pub fn row_words(self) -> usize {
+        [2, 4, 3, 2, 1, 8, 5][self as usize]
+    }
+
+    /// What one row is called.
+    pub fn row_name(self) -> &'static str {
+        ["string", "name", "level", "list", "list word", "expression", "declaration"][self as usize]
+    }
+}
+
+impl Pool {
+    /// The table's count as the head has it; 0 without a head.
+    pub fn count(&self, table: Table) -> u32 {
+        if self.words.len() < 7 {
+            return 0;
+        }
+        self.words[table as usize]
+    }
+
+    /// The words of a row, or nothing where the words end before it.
+    pub fn row(&self, table: Table, row: u64) -> Option<&[u32]> {
+        if row >= u64::from(self.count(table)) {
+            return None;
+        }
+        let before = Table::ALL[..table as usize].iter();
+        let start = before.fold(7u64, |at, &t| at + u64::from(self.count(t)) * t.row_words() as u64);
+        let at = usize::try_from(start + row * table.row_words() as u64).ok()?;
+        self.words.get(at..at + table.row_words())
+    }
+
+    /// All words of a table, or nothing where the words end before its end.
+    fn rows(&self, table: Table) -> Option<Vec<u32>> {
+        (0..u64::from(self.count(table))).try_fold(Vec::new(), |mut all, row| {
+            all.extend(self.row(table, row)?);
+            Some(all)
+        })
+    }
+
+    /// The bytes of a string row.
+    pub fn string(&self, row: u32) -> Option<&[u8]> {
+        let pair = self.row(Table::Strings, u64::from(row))?;
+        let (at, length) = (pair[0] as usize, pair[1] as usize);
+        self.bytes.get(at..at.checked_add(length)?)
+    }
+
+    /// The components of a name row, numbers as digits, the first one first. Nothing if the rows do not hold.
+    fn components(&self, row: u32) -> Option<Vec<Cow<'_, [u8]>>> {
+        let (mut components, mut at) = (Vec::new(), row);
+        loop {
+            let r = self.row(Table::Names, u64::from(at))?;
+            components.push(match r[0] {
+                0 => break,
+                1 => Cow::Borrowed(self.string(r[2])?),
+                _ => Cow::Owned((u64::from(r[2]) | u64::from(r[3]) << 32).to_string().into_bytes()),
+            });
+            // a prefix is a lower row, so this ends
+            at = Some(r[1]).filter(|&prefix| prefix < at)?;
+        }
+        components.reverse();
+        Some(components)
+    }
+
+    /// The pieces whose bytes are the name's text as listings have it, without the marks « »: components joined by ".", none after an
+    /// empty text. A name can be far longer than the pool, so it is not put together here.
+    fn name_pieces(&self, row: u32) -> Option<Vec<Cow<'_, [u8]>>> {
+        let (mut pieces, mut empty) = (Vec::new(), true);
+        for component in self.components(row)? {
+            if !empty {
+                pieces.push(Cow::Borrowed(&b"."[..]));
+            }
+            empty = empty && component.is_empty();
+            pieces.push(component);
+        }
+        Some(pieces)
+    }
+
+    fn declar_pieces(&self, row: u32) -> Option<Vec<Cow<'_, [u8]>>> {
+        self.name_pieces(self.row(Table::Declars, u64::from(row))?[1])
+    }
+
+    /// Is this the name of a declaration row as listings have it, without the marks « »?
+    pub fn declar_has_name(&self, row: u32, name: &str) -> bool {
+        let Some(pieces) = self.declar_pieces(row) else {
+            return false;
+        };
+        let rest = pieces.iter().try_fold(name.as_bytes(), |rest, piece| rest.strip_prefix(&piece[..]));
+        rest.is_some_and(<[u8]>::is_empty)
+    }
+
+    /// The name of a declaration row for a message: at most so many bytes of it, then two dots.
+    pub fn declar_title(&self, row: u32, most: usize) -> Option<String> {
+        let mut title = Vec::new();
+        for piece in self.declar_pieces(row)? {
+            let room = most - title.len();
+            title.extend(piece.iter().take(room));
+            if piece.len() > room {
+                return Some(String::from_utf8_lossy(&title).into_owned() + "..");
+            }
+        }
+        Some(String::from_utf8_lossy(&title).into_owned())
+    }
+
+    /// The table in which a pool is refused 3 or 4: the first one with which, the tables after it left out, it still is.
+    pub fn faulty_table(&self, refusal: Refusal) -> Option<Table> {
+        match refusal.number {
+            3 => Some(Table::Strings),
+            4 => Table::ALL[1..].iter().copied().find(|&last| self.up_to(last).is_some_and(|p| p.check() == Err(refusal))),
+            _ => None,
+        }
+    }
+
+    /// This pool with the tables up to this one. Lists are judged by how many list words there are, so theirs stand in as zeros,
+    /// over one level.
+    fn up_to(&self, last: Table) -> Option<Pool> {
+        let mut tables: Vec<Vec<u32>> =
+            Table::ALL.iter().map(|&t| if t as usize <= last as usize { self.rows(t) } else { Some(Vec::new()) }).collect::<Option<_>>()?;
+        if last == Table::Lists {
+            tables[Table::ListWords as usize] = vec![0; self.count(Table::ListWords) as usize];
+            if tables[Table::Levels as usize].is_empty() {
+                tables[Table::Levels as usize] = vec![0; 3];
+            }
+        }
+        let mut words: Vec<u32> = tables.iter().zip(Table::ALL).map(|(rows, t)| (rows.len() / t.row_words()) as u32).collect();
+        words.extend(tables.into_iter().flatten());
+        Some(Pool { bytes: self.bytes.clone(), words })
+    }
+
+    /// The refusal with the faulty row's table and words.
+    pub fn explain(&self, refusal: Refusal) -> String {
+        let Some((table, row)) = self.faulty_table(refusal).and_then(|t| Some((t, self.row(t, refusal.place)?))) else {
+            return refusal.to_string();
+        };
+        let words: Vec<String> = row.iter().map(u32::to_string).collect();
+        format!("refused {} ({} row {}, words {}): {}", refusal.number, table.row_name(), refusal.place, words.join(" "), rule(table, row))
+    }
+}
