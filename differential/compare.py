@@ -1,6 +1,6 @@
-"""Compares the model with the published Rust, on random pools and on the recorded corpus. See README.md; `run` is the entry.
+"""Compares the model, the published Rust and the product, on random pools and on the recorded corpus. See README.md; `run` is the entry.
 
-    compare.py [--prints N] [--seed S] [--letters] [--no-corpus | --corpus-alone] [--no-rust]
+    compare.py [--prints N] [--seed S] [--letters] [--no-corpus | --corpus-alone] [--no-rust] [--no-product]
 """
 import argparse
 import random
@@ -10,6 +10,7 @@ from collections import Counter, namedtuple
 
 import directed
 import model
+import product
 import record
 import refusals
 import rust
@@ -17,7 +18,10 @@ import specimens
 from generate import Case
 from pools import apply, of_declar, of_expr
 
-Expected = namedtuple("Expected", "request rows text laid")
+# What the model says of a print: its document and listing, or a refusal (number, place).
+Expected = namedtuple("Expected", "request rows text laid refusal")
+# The programs to compare with the model; None where there is none.
+Subjects = namedtuple("Subjects", "published product")
 
 
 class Tally:
@@ -36,6 +40,14 @@ class Tally:
             print("FAILED:", *what)
 
 
+def expected(pool, request):
+    """The model's print of a request."""
+    rows, text = model.rows_of(model.document(pool, request.mode, request.root, request.indent))
+    if text is None:
+        return Expected(request, None, None, None, tuple(rows))
+    return Expected(request, rows, text, model.layout(rows, text, request.width), None)
+
+
 def expected_prints(case, share, tally):
     """The model's prints of a case: each root at one indent and some widths."""
     area, words, roots = case.pool(share)
@@ -43,79 +55,121 @@ def expected_prints(case, share, tally):
     tally.judge(pool.fault == (0, 0), "seed", case.seed, "check gives", pool.fault)
     for mode, root in roots:
         indent = case.indent()
+        request = rust.Request(mode, root, indent, 80, area, words)
         rows, text = model.rows_of(model.document(pool, mode, root, indent))
         if text is None:
             tally.figures["refused by the model"] += 1
+            yield Expected(request, None, None, None, tuple(rows))
             continue
         for width in case.widths([r[4] for r in rows], 3):
-            request = rust.Request(mode, root, indent, width, area, words)
-            yield Expected(request, rows, text, model.layout(rows, text, width))
+            yield Expected(request._replace(width=width), rows, text, model.layout(rows, text, width), None)
 
 
 def same_trees(case, tally):
-    """Shared, unshared and mixed pools of the same trees have the same documents."""
-    documents = []
-    for share in (True, False, None):
-        area, words, roots = case.pool(share)
+    """Shared, unshared and mixed pools of the same trees have the same documents. Gives the same print of each root in the three pools, for the
+    product."""
+    documents, pools = [], [case.pool(share) for share in (True, False, None)]
+    for area, words, roots in pools:
         pool = model.Pool(area, words)
         documents.append(pool.fault == (0, 0) and [model.rows_of(model.document(pool, m, r, 2)) for m, r in roots])
         terms = [model.expr_term(pool.exprs[r]) for m, r in roots if m == 0]
         tally.judge(terms == [tree for m, tree in case.trees if m == 0], "seed", case.seed, "rows unfold to other trees")
     tally.judge(documents[0] and documents[0] == documents[1] == documents[2], "seed", case.seed, "shared and unshared differ")
+    width = (0, 20, 80)[case.seed % 3]
+    return [[rust.Request(*pools[k][2][i], 2, width, *pools[k][:2]) for k in range(3)] for i in range(len(case.trees))]
+
+
+def judge_same(program, triples, tally):
+    """The product's answers to the same print in a shared, an unshared and a mixed pool."""
+    replies = product.ask(program, [q for triple in triples for q in triple])
+    for i, triple in enumerate(triples):
+        a, b, c = replies[3 * i:3 * i + 3]
+        # the place of 7 is a row of the pool, and rows are numbered otherwise where they are not shared
+        if a.number == b.number == c.number == 7:
+            a, b, c = (r._replace(place=0) for r in (a, b, c))
+        tally.figures["prints in three pools"] += 1
+        tally.judge(a.fault is None and a == b == c, "product, three pools: mode", triple[0].mode, "root", triple[0].root, a.fault or b.fault or c.fault)
 
 
 def counts_of(e):
     return (len(e.rows), len(e.text)) + e.laid[1:]
 
 
-def judge_prints(program, batch, tally):
-    """Listing, document and counts of each print; outside the domain only figures are taken."""
+def about(q):
+    return "mode %d root %d indent %d width %d" % (q.mode, q.root, q.indent, q.width)
+
+
+def judge_published(program, batch, tally):
+    """Listing, document and counts of each print; outside the domain only figures are taken. Gives the Rust's replies, None where a print is
+    outside the domain."""
+    replies = []
     for e, reply in zip(batch, rust.ask(program, [e.request for e in batch])):
         same = (reply.status, reply.listing, reply.rows, reply.text) == (rust.PRINTED, e.laid.listing, e.rows, e.text)
         if reply.in_domain or reply.status != rust.PRINTED:
             tally.figures["in the domain"] += 1
             good = same and rust.counts(reply, e.request.width) == counts_of(e)
-            tally.judge(good, "mode", e.request.mode, "root", e.request.root, "indent", e.request.indent, "width", e.request.width,
-                        "Rust", reply.status, reply.listing, "model", e.laid.listing)
+            tally.judge(good, about(e.request), "Rust", reply.status, reply.listing, "model", e.laid.listing)
+            replies.append(reply)
         else:
             tally.figures["outside the domain"] += 1
             tally.figures["outside the domain and different"] += not same
+            replies.append(None)
+    return replies
 
 
-def random_prints(program, seed, prints, tally):
-    batch, made, number = [], 0, 0
+def judge_product(program, batch, published, tally):
+    """The product's listing, document and counts against the model's, and against the Rust's where there is a reply of it in the domain."""
+    for e, theirs, r in zip(batch, published, product.ask(program, [e.request for e in batch])):
+        tally.figures["prints of the product"] += 1
+        if e.refusal:
+            tally.judge((r.number, r.place) == e.refusal, "product", about(e.request), r.fault or r[:2], "model", e.refusal)
+            continue
+        good = r[:-1] == (0, 0, e.laid.listing, e.rows, e.text, counts_of(e))
+        tally.judge(good, "product", about(e.request), r.fault or (r.number, r.place, r.listing, r.counts), "model", e.laid.listing, counts_of(e))
+        if theirs:
+            tally.figures["prints of the product against the Rust"] += 1
+            good = r[2:6] == (theirs.listing, theirs.rows, theirs.text, rust.counts(theirs, e.request.width))
+            tally.judge(good, "product", about(e.request), r.fault or r.listing, "Rust", theirs.listing)
+
+
+def judge_prints(subjects, batch, tally):
+    printed, refused = [e for e in batch if not e.refusal], [e for e in batch if e.refusal]
+    published = judge_published(subjects.published, printed, tally) if subjects.published else [None] * len(printed)
+    if subjects.product:
+        judge_product(subjects.product, printed + refused, published + [None] * len(refused), tally)
+
+
+def random_prints(subjects, seed, prints, tally):
+    batch, triples, made, number = [], [], 0, 0
     while made < prints:
         case = Case(seed * 1000003 + number)
         if number % 4 == 0:
-            same_trees(case, tally)
+            triples += same_trees(case, tally)
         new = list(expected_prints(case, (True, False, None)[number % 3], tally))
         number += 1
-        made += len(new)
+        made += sum(not e.refusal for e in new)
         batch += new
-        if program and len(batch) >= 600:
-            judge_prints(program, batch, tally)
-            batch = []
-    if program:
-        judge_prints(program, batch, tally)
+        if len(batch) >= 600 or made >= prints:
+            judge_prints(subjects, batch, tally)
+            if subjects.product:
+                judge_same(subjects.product, triples, tally)
+            batch, triples = [], []
     tally.figures["random pools"], tally.figures["random prints"] = number, made
 
 
-def directed_prints(program, tally):
+def directed_prints(subjects, tally):
     """The trees of directed.py at a width that takes most of them whole and at a narrow one."""
     batch = []
     for number, (mode, tree) in enumerate(directed.trees()):
         area, words, root = (of_expr if mode == 0 else of_declar)(tree, number % 2 == 0)
         pool, indent = model.Pool(area, words), (2, 4, 1)[number % 3]
         tally.judge(pool.fault == (0, 0), "directed", number, "check gives", pool.fault)
-        rows, text = model.rows_of(model.document(pool, mode, root, indent))
-        for width in (100, 14):
-            batch.append(Expected(rust.Request(mode, root, indent, width, area, words), rows, text, model.layout(rows, text, width)))
+        batch += [expected(pool, rust.Request(mode, root, indent, width, area, words)) for width in (100, 14)]
     tally.figures["directed prints"] = len(batch)
-    if program:
-        judge_prints(program, batch, tally)
+    judge_prints(subjects, batch, tally)
 
 
-def letters(program, tally):
+def letters(subjects, tally):
     """Code points alone and after x, a hundred to a print: all below U+3400, each 97th, and those round the planes' edges."""
     chosen = lambda c: c < 0x3400 or c % 97 == 0 or c > 0x10FF00 or 0xFE00 <= c <= 0x10010
     points = [c for c in range(0x110000) if chosen(c) and not 0xD800 <= c < 0xE000]
@@ -124,11 +178,9 @@ def letters(program, tally):
         area, words, root = of_expr(apply(*(("const", (t,), ()) for c in points[at:at + 100] for t in (chr(c), "x" + chr(c)))))
         pool = model.Pool(area, words)
         tally.judge(pool.fault == (0, 0), "letters from", points[at], "check gives", pool.fault)
-        rows, text = model.rows_of(model.document(pool, 0, root, 2))
-        batch.append(Expected(rust.Request(0, root, 2, 100, area, words), rows, text, model.layout(rows, text, 100)))
+        batch.append(expected(pool, rust.Request(0, root, 2, 100, area, words)))
     tally.figures["code points"] = len(points)
-    if program:
-        judge_prints(program, batch, tally)
+    judge_prints(subjects, batch, tally)
 
 
 def random_document(r, budget):
@@ -146,21 +198,23 @@ def random_document(r, budget):
     return random_document(r, budget - 1) + [(model.GROUP,)]
 
 
-def random_layouts(program, seed, count, tally):
-    """Layout of given documents: accepted by the model, and the Rust's `render` gives the same listing."""
+def random_layouts(subjects, seed, count, tally):
+    """Layout of given documents: accepted by the model, and the Rust's `render` and the product give the same listing."""
     r, batch = random.Random(seed), []
     for _ in range(count):
         rows, text = model.rows_of(random_document(r, r.randint(1, 60)))
         words, width = [w for row in rows for w in row], r.choice((0, 1, 10, 20, 40, r.randint(0, 120)))
         answer = model.layout_document(words, len(rows), bytearray(text), len(text), width, bytearray(8192))
         tally.judge(answer.number == 0, "given document refused", answer.number, answer.place)
-        batch.append(Expected(rust.Request(2, 0, 0, width, text, words), rows, text, model.layout(rows, text, width)))
+        batch.append(Expected(rust.Request(2, 0, 0, width, text, words), rows, text, model.layout(rows, text, width), None))
     tally.figures["given documents"] = count
-    if not program:
-        return
-    for e, reply in zip(batch, rust.ask(program, [e.request for e in batch])):
+    requests = [e.request for e in batch]
+    for e, reply in zip(batch, rust.ask(subjects.published, requests) if subjects.published else ()):
         good = reply.listing == e.laid.listing and reply.rows == e.rows and rust.counts(reply, e.request.width) == counts_of(e)
         tally.judge(good, "layout at width", e.request.width, e.rows, e.text)
+    for e, r in zip(batch, product.ask(subjects.product, requests) if subjects.product else ()):
+        good = (r.number, r.listing, r.counts) == (0, e.laid.listing, counts_of(e))
+        tally.judge(good, "product: layout at width", e.request.width, e.rows, e.text, r.fault)
 
 
 def replay_model(pool_record, pool, tally):
@@ -184,26 +238,38 @@ def replay_rust(program, pool_records, tally):
         tally.judge(good, "corpus, Rust: mode", p.mode, "root", p.root, "width", p.width, p.listing)
 
 
-def replay(program, tally):
+def replay_product(program, pool_records, tally):
+    asked = [(p, rust.Request(p.mode, p.root, p.indent, p.width, r.area, r.words)) for r in pool_records for p in r.prints]
+    for (p, q), r in zip(asked, product.ask(program, [q for _, q in asked])):
+        good = (r.number, r.listing, r.counts) == (0, p.listing, p.counts)
+        if good and p.rows is not None:
+            good = r.rows == p.rows and r.text == p.text
+        tally.figures["corpus prints of the product"] += 1
+        tally.judge(good, "corpus, product:", about(q), r.fault or (r.number, r.place, r.listing, r.counts), "recorded", p.listing, p.counts)
+
+
+def replay(subjects, tally):
     records = record.read()
     for r in records:
         pool = model.Pool(r.area, r.words)
         tally.judge(pool.fault == (0, 0), "corpus pool", pool.fault)
         replay_model(r, pool, tally)
-    if program:
-        for i in range(0, len(records), 100):
-            replay_rust(program, records[i:i + 100], tally)
+    for i in range(0, len(records), 100):
+        if subjects.published:
+            replay_rust(subjects.published, records[i:i + 100], tally)
+        if subjects.product:
+            replay_product(subjects.product, records[i:i + 100], tally)
     tally.figures["corpus pools"] = len(records)
     tally.figures["corpus prints"] = sum(len(r.prints) for r in records)
 
 
-def fixed_inputs(program, tally):
-    for good, line in specimens.judged(program):
+def fixed_inputs(subjects, tally):
+    for good, line in specimens.judged(subjects.published, subjects.product):
         tally.figures["specimens and differences"] += 1
         tally.judge(good, line)
-    for title, answer, expected in refusals.cases():
+    for good, line in refusals.judged(subjects.product):
         tally.figures["refusals"] += 1
-        tally.judge(answer == expected, title, answer, "expected", expected)
+        tally.judge(good, line)
 
 
 def options():
@@ -214,23 +280,33 @@ def options():
     o.add_argument("--no-corpus", action="store_true")
     o.add_argument("--corpus-alone", action="store_true")
     o.add_argument("--no-rust", action="store_true")
+    o.add_argument("--no-product", action="store_true")
     return o.parse_args()
+
+
+def subjects_of(o):
+    """The programs that are at hand; says in a line each why one is not."""
+    published, why = (None, "asked not to") if o.no_rust else rust.build()
+    if published is None:
+        print("No comparison with the Rust: %s." % why)
+    program, why = (None, "asked not to") if o.no_product else product.build()
+    if program is None:
+        print("No comparison with the product: %s." % why)
+    return Subjects(published, program)
 
 
 def main():
     o, tally, start = options(), Tally(), time.time()
-    program, why = (None, "asked not to") if o.no_rust else rust.build()
-    if program is None:
-        print("No comparison with the Rust: %s." % why)
+    subjects = subjects_of(o)
     if not o.corpus_alone:
-        fixed_inputs(program, tally)
-        directed_prints(program, tally)
-        random_prints(program, o.seed, o.prints, tally)
-        random_layouts(program, o.seed, min(1500, o.prints), tally)
+        fixed_inputs(subjects, tally)
+        directed_prints(subjects, tally)
+        random_prints(subjects, o.seed, o.prints, tally)
+        random_layouts(subjects, o.seed, min(1500, o.prints), tally)
     if o.letters:
-        letters(program, tally)
+        letters(subjects, tally)
     if not o.no_corpus:
-        replay(program, tally)
+        replay(subjects, tally)
     for name, figure in tally.figures.items():
         print("%s: %d" % (name, figure))
     print("%.0f seconds" % (time.time() - start))

@@ -1,7 +1,7 @@
-"""Inputs that document 01 refuses, with the number and place worked out by hand from its sentences; run through the model.
+"""Inputs that document 01 refuses, with the number and place worked out by hand from its sentences; run through the model and the product.
 
-The Rust refuses nothing, so nothing is compared here. `cases()` gives (title, answer of the model, expected (number, place))."""
-import model
+The Rust refuses nothing. `cases()` gives (title, call, expected (number, place)); `judged(program)` what is wrong with the answers."""
+import product
 from pools import Builder, DECLARS, EXPRS, LEVELS, LISTS, NAMES, STRINGS, WORDS, const, of_expr
 from specimens import NAT, deep, doubled, nested_chains, pi, sort, var
 
@@ -21,13 +21,17 @@ def base():
     return b
 
 
+def check(area, words):
+    return product.Call(product.CHECK, area, words, 0, 0, 0, (0, 0, 0))
+
+
 def changed(table, row, word, value):
     """The base pool with one word changed; a row or word of -1 is the last one."""
     b = base()
     fields = list(b.tables[table][row])
     fields[word] = value
     b.tables[table][row] = tuple(fields)
-    return model.check(*b.pool())
+    return check(*b.pool())
 
 
 def row_of(kind):
@@ -35,26 +39,26 @@ def row_of(kind):
 
 
 def with_row(table, fields):
-    """The base pool with one row more; what check answers, and the row's number."""
+    """The base pool with one row more, and the row's number."""
     b = base()
     at = b.append(table, fields)
-    return model.check(*b.pool()), at
+    return check(*b.pool()), at
 
 
 def string_check(*pairs, area=b"abcdef\xc3\xa9\xed\xa0\x80\xc0\x80\xf4\x90\x80\x80"):
-    return model.check(area, [len(pairs), 0, 0, 0, 0, 0, 0] + [w for p in pairs for w in p])
+    return check(area, [len(pairs), 0, 0, 0, 0, 0, 0] + [w for p in pairs for w in p])
 
 
 def counts_and_strings():
     area, words = base().pool()
-    yield "six words", model.check(b"", [0] * 6), (1, 0)
-    yield "no row at all", model.check(b"", [0] * 7), (0, 0)
-    yield "a word too many", model.check(area, words + [0]), (1, 0)
-    yield "a word too few", model.check(area, words[:-1]), (1, 0)
-    yield "a count over its limit, total wrong", model.check(b"", [65537] + [0] * 6), (1, 0)
-    yield "65,537 list words, total right", model.check(b"", [0, 0, 0, 0, 65537, 0, 0] + [0] * 65537), (2, 0)
-    yield "byte area over its limit", model.check(bytes(16777217), [0] * 7), (2, 0)
-    yield "byte area at its limit", model.check(bytes(16777216), [0] * 7), (0, 0)
+    yield "six words", check(b"", [0] * 6), (1, 0)
+    yield "no row at all", check(b"", [0] * 7), (0, 0)
+    yield "a word too many", check(area, words + [0]), (1, 0)
+    yield "a word too few", check(area, words[:-1]), (1, 0)
+    yield "a count over its limit, total wrong", check(b"", [65537] + [0] * 6), (1, 0)
+    yield "65,537 list words, total right", check(b"", [0, 0, 0, 0, 65537, 0, 0] + [0] * 65537), (2, 0)
+    yield "byte area over its limit", check(bytes(16777217), [0] * 7), (2, 0)
+    yield "byte area at its limit", check(bytes(16777216), [0] * 7), (0, 0)
     yield "offsets fall", string_check((1, 1), (0, 1)), (3, 1)
     yield "offsets equal, pairs overlap", string_check((1, 3), (1, 1), (2, 1)), (0, 0)
     yield "past the end", string_check((0, 1), (16, 2)), (3, 1)
@@ -73,25 +77,25 @@ def names_levels_lists():
             (LEVELS, (5, 0, 0)), (LEVELS, (0, 0, 1)), (LEVELS, (1, 0, 1)), (LEVELS, (2, 0, 99)), (LEVELS, (4, 99, 0)),
             (LISTS, (0, 1)), (LISTS, (3, 1)), (LISTS, (4, 0)), (WORDS, (99,))]
     for table, fields in rows:
-        answer, at = with_row(table, fields)
-        yield "row %r in table %d" % (fields, table), answer, (4, at)
+        call, at = with_row(table, fields)
+        yield "row %r in table %d" % (fields, table), call, (4, at)
     yield "a list of none at the end of the list words", with_row(LISTS, (3, 0))[0], (0, 0)
     b = base()
     own = b.append(NAMES, (2, len(b.tables[NAMES]), 0, 0))
-    yield "a name that is its own prefix", model.check(*b.pool()), (4, own)
+    yield "a name that is its own prefix", check(*b.pool()), (4, own)
     b = Builder()
     b.name(("a",) * 63)
-    yield "a name of depth 64", model.check(*b.pool()), (0, 0)
+    yield "a name of depth 64", check(*b.pool()), (0, 0)
     b.name(("a",) * 64)
-    yield "a name of depth 65", model.check(*b.pool()), (4, 64)
+    yield "a name of depth 65", check(*b.pool()), (4, 64)
     b = Builder()
     l = ("zero",)
     for _ in range(63):
         l = ("succ", l)
     b.level(l)
-    yield "a level of depth 64", model.check(*b.pool()), (0, 0)
+    yield "a level of depth 64", check(*b.pool()), (0, 0)
     b.level(("succ", l))
-    yield "a level of depth 65", model.check(*b.pool()), (4, 64)
+    yield "a level of depth 65", check(*b.pool()), (4, 64)
 
 
 def expressions_declarations():
@@ -99,37 +103,26 @@ def expressions_declarations():
                               (6, 5, 2), (6, 7, 2), (7, 2, 65535), (7, 6, 4), (8, 1, 0), (9, 1, 99), (9, 5, 1)):
         at = row_of(kind)
         yield "expression of kind %d with word %d = %d" % (kind, word, value), changed(EXPRS, at, word, value), (4, at)
-    answer, at = with_row(EXPRS, (10, 0, 0, 0, 0, 0, 1, 0))
-    yield "kind 10", answer, (4, at)
-    answer, at = with_row(EXPRS, (3, 0, len(base().tables[EXPRS]), 0, 0, 0, 2, 0))
-    yield "an application to itself", answer, (4, at)
+    call, at = with_row(EXPRS, (10, 0, 0, 0, 0, 0, 1, 0))
+    yield "kind 10", call, (4, at)
+    call, at = with_row(EXPRS, (3, 0, len(base().tables[EXPRS]), 0, 0, 0, 2, 0))
+    yield "an application to itself", call, (4, at)
     for digits in ("", "00", "01", "1a", "-1", "٣"):
         area, words, root = of_expr(("nat", digits))
-        yield "natural %r" % digits, model.check(area, words), (4, root)
+        yield "natural %r" % digits, check(area, words), (4, root)
     area, words, _ = of_expr(deep(257))
-    yield "depth 257", model.check(area, words), (4, 257)
+    yield "depth 257", check(area, words), (4, 257)
     for row, word, value in ((0, 0, 8), (0, 1, 99), (0, 2, 99), (0, 3, 99), (0, 4, 1), (1, 4, 99)):
         yield "declaration %d with word %d = %d" % (row, word, value), changed(DECLARS, row, word, value), (4, row)
     b = base()
     b.tables[STRINGS][1], b.tables[NAMES][0], b.tables[DECLARS][0] = (99, 1), (7, 0, 0, 0), (9, 0, 0, 0, 0)
-    yield "faults in three tables", model.check(*b.pool()), (3, 1)
+    yield "faults in three tables", check(*b.pool()), (3, 1)
 
 
 def called(tree, rows=7 * 17, text=12, listing=13, indent=2, width=13, root=None, mode=0):
-    """Number and place of a print in areas of these lengths, and whether the areas are as 01 says."""
+    """A print in areas of these lengths."""
     area, words, at = of_expr(tree)
-    lent = model.areas(rows, text, listing)
-    answer = model.print_call(model.Pool(area, words), mode, at if root is None else root, indent, width, lent)
-    full = model.print_call(model.Pool(area, words), 0, at, 2, width, model.areas())
-    untouched = set(lent.listing) <= {0xA5}
-    cleared = set(lent.rows) <= {0} and set(lent.text) <= {0}
-    if answer.number in (5, 6):
-        assert untouched and set(lent.rows) <= {0xA5} and set(lent.text) <= {0xA5}
-    elif answer.number in (7, 8, 20, 21):
-        assert untouched and cleared
-    elif answer.number == 22:
-        assert bytes(lent.listing) == bytes(full.areas.listing[:listing]) and not cleared
-    return answer.number, answer.place
+    return product.Call(mode, area, words, at if root is None else root, indent, width, (rows, text, listing))
 
 
 def prints():
@@ -174,9 +167,7 @@ GIVEN = [(0, 0, 1, 1, 1, 1, 0), (2, 1, 0, 1, 1, 0, 1), (1, 0, 0, 3, 2, 1, 1), (0
 
 def given(rows=GIVEN, row_count=None, text=b"abc", text_count=3, width=80, listing=100):
     words = [w for r in rows for w in r]
-    row_count = len(rows) if row_count is None else row_count
-    answer = model.layout_document(words, row_count, bytearray(text), text_count, width, bytearray(listing))
-    return answer.number, answer.place
+    return product.Call(2, text, words, 0, 0, width, (len(rows) if row_count is None else row_count, text_count, listing))
 
 
 def with_word(row, word, value):
@@ -212,9 +203,52 @@ def cases():
         yield from part()
 
 
+def prints_of_refused():
+    """Whatever check refuses, both prints refuse with the same number and place."""
+    for title, call, expected in cases():
+        if call.mode == product.CHECK and expected[0]:
+            for mode in (0, 1):
+                yield "print, mode %d: %s" % (mode, title), call._replace(mode=mode, indent=2, width=80, lengths=(15, 5, 9)), expected
+
+
+def areas_hold(call, answer):
+    """Whether the areas are as 01 says of the number; a success and 22 against a print in long areas."""
+    if call.mode >= 2:
+        return True
+    rows, text, listing = answer.areas
+    untouched = lambda a, fill: all(x == fill for x in a)
+    if answer.number <= 6 and answer.number != 0:
+        return untouched(rows, product.FILL * 0x01010101) and untouched(text, product.FILL) and untouched(listing, product.FILL)
+    if answer.number in (7, 8, 20, 21):
+        return not any(rows) and not any(text) and untouched(listing, product.FILL)
+    full = product.by_model(call._replace(lengths=(7 * 16384, 65536, 1 << 17)))
+    length = min(full.counts[2], len(listing))
+    past = all(x == product.FILL for x in listing[length:])
+    return listing[:length] == full.areas.listing[:length] and past and rows == full.areas.rows[:len(rows)] and text == full.areas.text[:len(text)]
+
+
+def judged(program=None):
+    """(good, what) for each case by the model and, if there is a program, by the product: there the areas and counts are the model's too."""
+    chosen = list(cases())
+    by_model = [product.by_model(call) for _, call, _ in chosen]
+    for (title, call, expected), answer in zip(chosen, by_model):
+        yield answer[:2] == expected and areas_hold(call, answer), "by the model: %s: %r, expected %r" % (title, answer[:3], expected)
+    if program:
+        more = list(prints_of_refused())
+        chosen, by_model = chosen + more, by_model + [product.by_model(call) for _, call, _ in more]
+        for (title, call, expected), known, answer in zip(chosen, by_model, product.call(program, [call for _, call, _ in chosen])):
+            what = "by the product: %s: %r, expected %r" % (title, answer.fault or answer[:3], expected)
+            yield answer[:2] == expected and answer == known, what
+
+
 if __name__ == "__main__":
-    wrong = [(t, got, want) for t, got, want in cases() if got != want]
-    for case in wrong:
-        print("FAILED: %s: %r, expected %r" % case)
-    print("%d passed, %d failed" % (len(list(cases())) - len(wrong), len(wrong)))
-    raise SystemExit(bool(wrong))
+    program, why = product.build()
+    if program is None:
+        print("No comparison with the product: %s." % why)
+    results = list(judged(program))
+    for good, what in results:
+        if not good:
+            print("FAILED:", what)
+    failed = sum(not good for good, _ in results)
+    print("%d passed, %d failed" % (len(results) - failed, failed))
+    raise SystemExit(bool(failed))

@@ -8,6 +8,7 @@ from collections import Counter, namedtuple
 from itertools import product
 
 import model
+import product
 import rust
 from pools import DECLAR_WORDS, DEFAULT, IMPLICIT, INSTANCE, STRICT, apply, const, of_declar, of_expr, param, succ
 
@@ -219,8 +220,8 @@ def specimen_pool(s):
     return (of_expr if s.mode == EXPRESSION else of_declar)(s.tree)
 
 
-def judged(program):
-    """(good, what) for each specimen and difference, by the model and, if there is a program, by the Rust."""
+def judged(program, of_product=None):
+    """(good, what) for each specimen and difference, by the model and, where there are programs, by the Rust and by the product."""
     pools = [specimen_pool(s) for s in SPECIMENS]
     for s, (area, words, root) in zip(SPECIMENS, pools):
         o = by_model(s.mode, (area, words), root, 2, s.width)
@@ -232,6 +233,18 @@ def judged(program):
         yield good, "difference by the model: %s: %r" % (d.title, o)
     if program:
         yield from judged_rust(program, pools, differences)
+    if of_product:
+        asked = [rust.Request(s.mode, root, 2, s.width, area, words) for s, (area, words, root) in zip(SPECIMENS, pools)]
+        asked += [rust.Request(d.mode, d.root, d.indent, d.width, *d.pool) for d in differences]
+        yield from judged_product(of_product, asked, [s.title for s in SPECIMENS] + [d.title for d in differences])
+
+
+def judged_product(program, asked, titles):
+    """Of the product: what the model says, refusals with their places too."""
+    for title, q, r in zip(titles, asked, product.ask(program, asked)):
+        o = by_model(q.mode, (q.area, q.words), q.root, q.indent, q.width)
+        said = Outcome(None, (r.number, r.place), None) if r.number else Outcome(r.listing.decode(), None, r.counts)
+        yield r.fault is None and said == o, "by the product: %s: %r, expected %r" % (title, r.fault or said, o)
 
 
 def judged_rust(program, pools, differences):

@@ -1,0 +1,139 @@
+"""The product as a program: rust/examples/prints over the static library (see README.md, "Requests and answers of the product")."""
+import glob
+import os
+import shutil
+import struct
+import subprocess
+import tempfile
+from collections import namedtuple
+
+import model
+import rust
+
+HERE = os.path.dirname(os.path.abspath(__file__))
+TOP = os.path.dirname(HERE)
+FILL = 0xA5
+CHECK = 3
+# `fault` says in words why there is no answer, or what the program found wrong with it; else it is None.
+Reply = namedtuple("Reply", "number place listing rows text counts fault")
+# One call: of a print the lengths of its areas (rows in words); of a layout the counts of rows and text bytes, and the listing's length.
+Call = namedtuple("Call", "mode area words root indent width lengths")
+Called = namedtuple("Called", "number place counts areas fault")
+
+
+def library():
+    """(folder of the static library, None) or (None, why there is none)."""
+    folder = os.environ.get("TILUSORGU_LIB_DIR")
+    archive = os.path.join(folder or os.path.join(TOP, "target", "staticlib"), "liblister_c.a")
+    if not os.path.exists(archive):
+        return None, "the static library is not at hand (rust/build-library makes it, or TILUSORGU_LIB_DIR names its folder)"
+    with open(archive, "rb") as f:
+        if b"tilusorgu_print_declar" not in f.read():
+            return None, "%s has no prints" % os.path.relpath(archive)
+    made = os.path.getmtime(archive)
+    if not folder and any(os.path.getmtime(p) > made for p in glob.glob(os.path.join(TOP, "crates", "*", "src", "*.rt"))):
+        return None, "the static library is older than its sources (rust/build-library makes it anew)"
+    return os.path.abspath(os.path.dirname(archive)), None
+
+
+def build(out=os.path.join(rust.OUT, "product")):
+    """(program, None) or (None, why there is none)."""
+    folder, why = library()
+    if folder is None:
+        return None, why
+    if shutil.which("cargo") is None:
+        return None, "cargo is not at hand"
+    environment = dict(os.environ, TILUSORGU_LIB_DIR=folder, CARGO_TARGET_DIR=os.path.abspath(out))
+    command = ["cargo", "build", "--release", "--offline", "--quiet", "--example", "prints", "--manifest-path", os.path.join(TOP, "rust", "Cargo.toml")]
+    done = subprocess.run(command, capture_output=True, text=True, env=environment)
+    if done.returncode != 0:
+        return None, "its program does not build: " + (done.stderr.strip().splitlines() or ["?"])[-1]
+    return os.path.join(os.path.abspath(out), "release", "examples", "prints"), None
+
+
+def run(program, requests, timeout):
+    """(standard output, what went wrong or None) of one process."""
+    with tempfile.NamedTemporaryFile() as f:
+        f.writelines(requests)
+        f.flush()
+        try:
+            done = subprocess.run([program, "--doc", f.name], stdout=subprocess.PIPE, stderr=subprocess.PIPE, timeout=timeout)
+        except subprocess.TimeoutExpired as e:
+            return e.stdout or b"", "no answer in %d seconds" % timeout
+    said = done.stderr.decode(errors="replace").strip().splitlines()
+    return done.stdout, None if done.returncode == 0 else (said or ["the process ended with status %d" % done.returncode])[-1]
+
+
+def replies(program, requests, decode, failed, timeout):
+    """One reply for each request; after a request that has none, the next ones are asked in a process of their own."""
+    out = []
+    while len(out) < len(requests):
+        first = len(out)
+        data, fault = run(program, [r for r, _ in requests[first:]], timeout)
+        at = 0
+        while at < len(data) and len(out) < len(requests):
+            try:
+                reply, at = decode(data, at, requests[len(out)][1])
+            except struct.error:
+                break
+            out.append(reply)
+        if len(out) < len(requests):
+            out.append(failed(fault or "no answer"))
+    return out
+
+
+def decode(data, at, _):
+    reply, at = rust.decode(data, at)
+    number, place = struct.unpack_from("<2I", data, at - size_of(reply))
+    counts = struct.unpack_from("<6Q", data, at)
+    return Reply(number, place, reply.listing, reply.rows, reply.text, counts, None), at + 48
+
+
+def size_of(reply):
+    return 12 + len(reply.listing) + 4 + 28 * len(reply.rows) + 4 + len(reply.text)
+
+
+def ask(program, requests, timeout=300):
+    """One Reply for each rust.Request; the timeout in seconds is for all of them."""
+    return replies(program, [(rust.encode(q), q) for q in requests], decode, lambda fault: Reply(None, None, b"", [], b"", None, fault), timeout)
+
+
+def encode_call(c):
+    q = rust.encode(rust.Request(c.mode, c.root, c.indent, c.width, c.area, c.words))
+    return b"PLC1" + q[4:] + struct.pack("<3I", *c.lengths)
+
+
+def area_lengths(c):
+    return c.lengths if c.mode < 2 else (0, 0, c.lengths[2]) if c.mode == 2 else (0, 0, 0)
+
+
+def decode_call(data, at, c):
+    out = struct.unpack_from("<8Q", data, at)
+    rows, text, listing = area_lengths(c)
+    words = list(struct.unpack_from("<%dI" % rows, data, at + 64))
+    at += 64 + 4 * rows
+    if at + text + listing > len(data):
+        raise struct.error
+    areas = model.Areas(words, data[at:at + text], data[at + text:at + text + listing])
+    return Called(out[0], out[1], out[2:] if out[0] == 0 and c.mode != CHECK else None, areas, None), at + text + listing
+
+
+def call(program, calls, timeout=300):
+    """One Called for each Call: number, place, counts of a success, and the areas as they were left (filled with FILL before)."""
+    failed = lambda fault: Called(None, None, None, None, fault)
+    return replies(program, [(encode_call(c), c) for c in calls], decode_call, failed, timeout)
+
+
+def by_model(c):
+    """The same of the model."""
+    if c.mode == CHECK:
+        number, place = model.check(c.area, c.words)
+        return Called(number, place, None, model.Areas([], b"", b""), None)
+    rows, text, listing = area_lengths(c)
+    lent = model.Areas([FILL * 0x01010101] * rows, bytearray([FILL]) * text, bytearray([FILL]) * listing)
+    if c.mode == 2:
+        answer = model.layout_document(c.words, c.lengths[0], bytearray(c.area), c.lengths[1], c.width, lent.listing)
+    else:
+        answer = model.print_call(model.Pool(c.area, c.words), c.mode, c.root, c.indent, c.width, lent)
+    counts = None if answer.counts is None else tuple(answer.counts)
+    return Called(answer.number, answer.place, counts, model.Areas(lent.rows, bytes(lent.text), bytes(lent.listing)), None)

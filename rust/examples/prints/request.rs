@@ -1,0 +1,62 @@
+//! Requests as they stand in the file.
+use tilusorgu::{Pool, Root};
+
+#[derive(Clone, Copy, PartialEq, Eq)]
+pub enum Call {
+    PrintExpr,
+    PrintDeclar,
+    /// The pool's words and bytes are a document's rows and text.
+    Layout,
+    Check,
+}
+
+pub struct Request {
+    pub call: Call,
+    root: u32,
+    pub indent: u32,
+    pub width: u32,
+    pub pool: Pool,
+    /// Those of the areas, of a request for one call alone: rows (in words), text and listing; of a layout the counts of its rows and text bytes, and the listing.
+    pub lengths: Option<[u32; 3]>,
+}
+
+impl Request {
+    pub fn root(&self) -> Root {
+        match self.call {
+            Call::PrintDeclar => Root::Declar(self.root),
+            _ => Root::Expr(self.root),
+        }
+    }
+}
+
+fn bytes<'a>(data: &mut &'a [u8], count: usize) -> &'a [u8] {
+    let (first, rest) = data.split_at(count);
+    *data = rest;
+    first
+}
+
+fn words(data: &mut &[u8], count: usize) -> Vec<u32> {
+    bytes(data, 4 * count).chunks_exact(4).map(|w| u32::from_le_bytes(w.try_into().expect("four bytes"))).collect()
+}
+
+/// The next request, none at the end of the data.
+///
+/// # Panics
+/// If the data are no requests.
+pub fn next(data: &mut &[u8]) -> Option<Request> {
+    if data.is_empty() {
+        return None;
+    }
+    let alone = match bytes(data, 4) {
+        b"PLQ1" => false,
+        b"PLC1" => true,
+        other => panic!("no request begins with {other:?}"),
+    };
+    let head = words(data, 5);
+    let area = bytes(data, head[4] as usize).to_vec();
+    let count = words(data, 1)[0] as usize;
+    let pool = Pool { bytes: area, words: words(data, count) };
+    let lengths = alone.then(|| words(data, 3).try_into().expect("three lengths"));
+    let call = [Call::PrintExpr, Call::PrintDeclar, Call::Layout, Call::Check][head[0] as usize];
+    Some(Request { call, root: head[1], indent: head[2], width: head[3], pool, lengths })
+}
