@@ -1,10 +1,12 @@
 //! Benchmarks of check and layout: see README.md. Prints Markdown tables.
+mod common;
+
+use common::{best, in_thread, micros};
 use std::hint::black_box;
 use std::io::Write;
-use std::time::{Duration, Instant};
+use std::time::Duration;
 
 extern "C" {
-    fn clock_gettime(clock: i32, time: *mut [i64; 2]) -> i32;
     fn tilusorgu_check(bytes: *const u8, byte_count: usize, words: *const u32, word_count: usize, out: *mut u64, out_count: usize) -> u32;
     fn tilusorgu_layout(
         rows: *const u32,
@@ -48,26 +50,6 @@ fn layout(d: &Doc, width: u32, listing: &mut [u8]) -> (u32, [u64; 8]) {
     };
     assert!(n as u64 == out[0]);
     (n, out)
-}
-
-/// The processor time of this thread, so that what else the machine does is not counted.
-fn now() -> Duration {
-    let mut t = [0i64; 2];
-    assert!(unsafe { clock_gettime(3, &mut t) } == 0); // CLOCK_THREAD_CPUTIME_ID
-    Duration::new(t[0] as u64, t[1] as u32)
-}
-
-/// The best time of a task: at least `least` runs, and more until `budget` is spent.
-fn best(least: usize, budget: Duration, mut task: impl FnMut()) -> Duration {
-    let start = Instant::now();
-    let (mut best, mut runs) = (Duration::MAX, 0);
-    while runs < least || start.elapsed() < budget {
-        let t = now();
-        task();
-        best = best.min(now() - t);
-        runs += 1;
-    }
-    best
 }
 
 // ---- pools
@@ -394,10 +376,6 @@ fn stack_of(task: &mut dyn FnMut()) -> usize {
     here - a
 }
 
-fn in_thread<T: Send + 'static>(stack: usize, task: impl FnOnce() -> T + Send + 'static) -> T {
-    std::thread::Builder::new().stack_size(stack).spawn(task).unwrap().join().unwrap()
-}
-
 const TASKS: [&str; 5] = ["check, full pool", "layout, left comb", "layout, right comb", "layout, chain of groups", "layout, nested groups"];
 
 fn task(i: usize) -> Box<dyn FnMut() + Send> {
@@ -438,10 +416,6 @@ fn interface() {
     assert!(layout(&d, 6, &mut listing) == (0, [0, 0, 8, 4, 6, 1, 6, 1]) && &listing[..6] == b"ab cd ");
     assert!(layout(&d, 5, &mut listing) == (0, [0, 0, 8, 4, 6, 3, 2, 1]) && &listing[..6] == b"ab\ncd\n");
     assert!(layout(&d, 5, &mut listing[..5]) == (22, [22, 0, 0, 0, 0, 0, 0, 0]));
-}
-
-fn micros(d: Duration) -> f64 {
-    d.as_secs_f64() * 1e6
 }
 
 fn main() {

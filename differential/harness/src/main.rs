@@ -231,6 +231,17 @@ struct Answer {
     dump: Option<pretty_printer::dump::Dump>,
 }
 
+/// With ORACLE_PRINT_TIME set, writes to standard error how many nanoseconds of processor time the task took, less what asking for the time takes.
+fn timed<T>(task: impl FnOnce() -> T) -> T {
+    if std::env::var_os("ORACLE_PRINT_TIME").is_none() { return task() }
+    let now = pretty_printer::dump::thread_nanos;
+    let asking = (0..20).map(|_| { let t = now(); now() - t }).min().unwrap();
+    let start = now();
+    let result = task();
+    eprintln!("print {}", (now() - start - asking).max(1));
+    result
+}
+
 fn answer(q: &Request, doc: bool) -> Result<Answer, String> {
     if q.mode == 2 {
         let (listing, d) = pretty_printer::dump::render_rows(&q.bytes, &q.words, q.width as usize)?;
@@ -267,7 +278,7 @@ fn answer(q: &Request, doc: bool) -> Result<Answer, String> {
         match decl {
             None => {
                 let e = t.expr(&mut c1, &p, q.root as usize)?;
-                let listing = c1.with_pp(&bump, |pp| pp.pp_expr(e));
+                let listing = timed(|| c1.with_pp(&bump, |pp| pp.pp_expr(e)));
                 let dump = doc.then(|| {
                     c1.with_pp(&bump, |pp| pretty_printer::dump::Dump::of(&pretty_printer::dump::expr_doc(pp, e)))
                 });
@@ -330,7 +341,7 @@ fn answer(q: &Request, doc: bool) -> Result<Answer, String> {
                 };
                 let mut c2 = TcCtx::new(&ef2, scope);
                 c2.dag = c1.dag;
-                let listing = c2.with_pp(&bump, |pp| pp.pp_declar(n)).unwrap();
+                let listing = timed(|| c2.with_pp(&bump, |pp| pp.pp_declar(n))).unwrap();
                 let dump = doc.then(|| {
                     c2.with_pp(&bump, |pp| pretty_printer::dump::Dump::of(&pretty_printer::dump::declar_doc(pp, n)))
                 });

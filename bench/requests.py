@@ -1,0 +1,217 @@
+"""Writes what bench/prints.rs prints: requests as differential/README.md has them (NAME.req) and a title for each (NAME.txt).
+
+    requests.py FOLDER
+"""
+import os
+import random
+import sys
+
+sys.path.insert(0, os.path.join(os.path.dirname(os.path.abspath(__file__)), "..", "differential"))
+import model
+import record
+import rust
+from pools import EXPRS, IMPLICIT, INSTANCE, LEVELS, LISTS, WORDS, Builder, apply, const, of_declar, of_expr
+from specimens import doubled, lam, pi, sort, succ, var
+
+EXPRESSION, DECLARATION = 0, 1
+C, F = const("C"), const("f")
+
+
+def expression(title, tree, width=80):
+    area, words, root = of_expr(tree)
+    return title, rust.Request(EXPRESSION, root, 2, width, area, words)
+
+
+def declaration(title, tree, width=80):
+    area, words, root = of_declar(tree)
+    return title, rust.Request(DECLARATION, root, 2, width, area, words)
+
+
+def corpus():
+    """All recorded prints; the title says what they are."""
+    for r in record.read():
+        for p in r.prints:
+            kind = "declaration" if p.mode else "expression"
+            yield "%s %d" % (kind, p.counts[0]), rust.Request(p.mode, p.root, p.indent, p.width, r.area, r.words)
+
+
+# ---- documents of about 16,000 rows
+
+def chain(make, count, body, type_of):
+    e = body
+    for i in range(count - 1, -1, -1):
+        e = make("x%d" % i, type_of(i), e)
+    return e
+
+
+def lets(count):
+    e = C
+    for i in range(count):
+        e = ("let", ("v%d" % i,), C, ("nat", str(i)), apply(F, e, var(0)) if i % 50 == 0 else e, 0)
+    return e
+
+
+def whole(parts):
+    return apply(F, *parts)
+
+
+def documents():
+    spine = lambda k: apply(const("g%d" % k), *(const("a%d" % i) for i in range(240)))
+    foralls = lambda k: chain(pi, 120, apply(const("P"), *(var(i) for i in range(120))), lambda i: const("T%d" % (i % 7 + k)))
+    dependent = lambda k: chain(lam, 60, var(0), lambda i: apply(const("T%d" % k), *(var(j) for j in range(min(i, 4)))))
+    equal = lambda k: chain(lam, 230, var(0), lambda i: apply(const("T%d" % k), const("a"), const("b")))
+    arrows = lambda k: chain(pi, 200, C, lambda i: apply(const("T%d" % (i + k)), const("a")))
+    made = [("applications of 240 arguments, 8 of them", whole([spine(k) for k in range(8)])),
+            ("foralls over 120 variables, 4 chains", whole([foralls(k) for k in range(4)])),
+            ("lambdas of types over the variables before, 5 chains of 60", whole([dependent(k) for k in range(5)])),
+            ("lambdas of equal types, 230 each, 13 chains", whole([equal(k) for k in range(13)])),
+            ("arrows, 200 each, 3 chains", whole([arrows(k) for k in range(3)])),
+            ("lets, 200 each, 2 chains", whole([lets(200) for k in range(2)])),
+            ("c applied to itself, doubled 10 times, in 13 rows", whole([self_applied(10, C)]))]
+    for title, tree in made:
+        title, q = expression(title, tree)
+        pool = model.Pool(q.area, q.words)
+        assert pool.fault == (0, 0), (title, pool.fault)
+        rows, text = model.rows_of(model.document(pool, q.mode, q.root, q.indent))
+        assert text is not None, (title, rows)
+        yield title, q
+
+
+# ---- small declarations
+
+def declarations():
+    u = ("param", ("u",))
+    lemma = pi("x", const("Nat"), pi("y", const("Nat"), pi("a", apply(const("Pos"), var(1)), pi("b", apply(const("Even"), var(1)), apply(
+        const("And"), apply(const("Pos"), apply(const("add"), var(3), var(2))), apply(const("Le"), var(3), apply(const("mul"), var(3), var(2))))))))
+    proof = lam("x", const("Nat"), lam("y", const("Nat"), lam("a", apply(const("Pos"), var(1)), lam("b", apply(const("Even"), var(1)), apply(
+        const("And.intro"), apply(const("pos"), var(3), var(2), var(1), var(0)), apply(const("le"), var(3), var(2)))))))
+    yield declaration("axiom k : @C", (0, ("k",), (), C, None))
+    yield declaration("def k.{u} (a : Sort u) : Sort u := a", (3, ("k",), (u,), pi("a", sort(u), sort(u)), lam("a", sort(u), var(0))))
+    yield declaration("a theorem of four hypotheses", (2, ("Register", "cross"), (), lemma, proof))
+    yield declaration("the same at width 20", (2, ("Register", "cross"), (), lemma, proof), 20)
+    yield declaration("constructor k.{u} {a : Sort u} : a -> C", (6, ("k",), (u,), pi("a", sort(u), pi("", var(0), C), IMPLICIT), None))
+
+
+# ---- pools whose trees are far larger than their rows
+
+def self_applied(times, leaf):
+    for _ in range(times):
+        leaf = ("app", leaf, leaf)
+    return leaf
+
+
+def level_tower(b, height):
+    """`max l l` so often over zero: a row for each step, and none of an earlier tower."""
+    row = b.append(LEVELS, (0, 0, 0))
+    for _ in range(height):
+        row = b.append(LEVELS, (2, row, row))
+    return row
+
+
+def constants_of_towers(separate):
+    """fun (a : C.{l}) (b : C.{l}) => c, the lists in rows of their own, the levels in the same rows or in others."""
+    b = Builder()
+    name, first = b.name(("C",)), level_tower(b, 62)
+    types = []
+    for level in (first, level_tower(b, 62) if separate else first):
+        at = b.append(LISTS, (len(b.tables[WORDS]), 1))
+        b.append(WORDS, (level,))
+        types.append(b.append(EXPRS, (2, name, at, 0, 0, 0, 1, 0)))
+    body = b.expr(const("c"))
+    inner = b.append(EXPRS, (5, b.name(("b",)), 0, types[1], body, 0, 2, 0))
+    root = b.append(EXPRS, (5, b.name(("a",)), 0, types[0], inner, 0, 3, 0))
+    return rust.Request(EXPRESSION, root, 2, 80, *b.pool())
+
+
+def closed_pairs(n):
+    """`fun (a b : T) => c` with T the term before, a closed one."""
+    e = C
+    for _ in range(n):
+        e = lam("a", e, lam("b", e, const("c")))
+    return e
+
+
+def mixed_layers(layers, seed=1):
+    """Layers of four rows, each an application or a lambda over two rows of the layer below, under a pi that has to know whether its variable occurs."""
+    r = random.Random(seed)
+    below = [var(i + 1) for i in range(4)]
+    for _ in range(layers):
+        pairs = [(r.choice(below), r.choice(below)) for _ in range(4)]
+        below = [lam("x", s, t) if r.random() < 0.5 else ("app", s, t) for s, t in pairs]
+    return pi("n", C, below[0])
+
+
+def separate_lambdas(n):
+    """fun (a : X) (b : X) => c over X = `app x x` n deep, the second X in rows of its own and its variable lifted by one."""
+    return lam("a", self_applied(n, var(0)), lam("b", self_applied(n, var(1)), const("c")))
+
+
+def pools():
+    yield "two constants with `max l l` 62 deep in their lists, shared rows", constants_of_towers(False)
+    yield "the same, separate rows", constants_of_towers(True)
+    yield expression("`fun (a b : T) => c` nested 127 deep, T closed", closed_pairs(127))
+    yield expression("the same over a loose variable", doubled(127))
+    yield expression("`fun (a : T v) (b : T (v+1)) => c` nested 100 deep over open terms", doubled(100))
+    for n in (60, 200):
+        yield expression("an arrow over `app x x` nested %d deep, a variable loose" % n, pi("n", C, self_applied(n, var(1))))
+        yield expression("two lambdas over `app x x` nested %d deep, a variable loose" % n, separate_lambdas(n))
+    for n in (60, 120, 250):
+        yield expression("%d layers of four rows, applications and lambdas, under a pi" % n, mixed_layers(n))
+
+
+# ---- the deepest trees
+
+HOLES = (
+    ("an argument", lambda e: ("app", F, e)),
+    ("a head", lambda e: ("app", e, C)),
+    ("an arrow's type", lambda e: pi("x", e, C)),
+    ("a forall's type", lambda e: pi("x", e, apply(const("P"), var(0)), IMPLICIT)),
+    ("an arrow's body", lambda e: pi("x", C, e)),
+    ("a forall's body", lambda e: pi("x", C, e, IMPLICIT)),
+    ("a lambda's body", lambda e: lam("x", C, e)),
+    ("a lambda's type", lambda e: lam("x", e, var(0), INSTANCE)),
+    ("a let's type", lambda e: ("let", ("x",), e, C, C, 0)),
+    ("a let's value", lambda e: ("let", ("x",), C, e, C, 0)),
+    ("a let's body", lambda e: ("let", ("x",), C, C, e, 0)),
+    ("a projection", lambda e: ("proj", ("S",), 0, e)),
+    ("an argument's lambda", lambda e: ("app", F, lam("x", C, e))),
+    ("a lambda's type's argument", lambda e: lam("x", ("app", F, e), var(0))),
+    ("a let's value's lambda", lambda e: ("let", ("x",), C, lam("x", C, e), C, 0)),
+    ("the type of a group of three", lambda e: lam("x", e, lam("y", e, lam("z", e, C)))),
+)
+
+
+def deepest(hole):
+    """The deepest term of the shape that is accepted."""
+    b, e = Builder(), C
+    while True:
+        more = hole(e)
+        if b.tables[EXPRS][b.expr(more)][6] > 256:
+            return e
+        e = more
+
+
+def stacks():
+    """Each shape as an expression, as an axiom's type and as a definition's value."""
+    for title, hole in HOLES:
+        e = deepest(hole)
+        yield expression(title + "|expression", e, 40)
+        yield declaration(title + "|type", (0, ("k",), (), e, None), 40)
+        yield declaration(title + "|value", (3, ("k",), (), C, e), 40)
+
+
+def write(folder, name, made):
+    made = list(made)
+    with open(os.path.join(folder, name + ".req"), "wb") as f:
+        f.writelines(rust.encode(q) for _, q in made)
+    with open(os.path.join(folder, name + ".txt"), "w") as f:
+        f.writelines(title + "\n" for title, _ in made)
+
+
+def main():
+    for name, made in (("corpus", corpus), ("documents", documents), ("declarations", declarations), ("pools", pools), ("stacks", stacks)):
+        write(sys.argv[1], name, made())
+
+
+if __name__ == "__main__":
+    main()
