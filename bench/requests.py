@@ -3,7 +3,6 @@
     requests.py FOLDER
 """
 import os
-import random
 import sys
 
 sys.path.insert(0, os.path.join(os.path.dirname(os.path.abspath(__file__)), "..", "differential"))
@@ -131,14 +130,14 @@ def closed_pairs(n):
     return e
 
 
-def mixed_layers(layers, seed=1):
-    """Layers of four rows, each an application or a lambda over two rows of the layer below, under a pi that has to know whether its variable occurs."""
-    r = random.Random(seed)
-    below = [var(i + 1) for i in range(4)]
-    for _ in range(layers):
-        pairs = [(r.choice(below), r.choice(below)) for _ in range(4)]
-        below = [lam("x", s, t) if r.random() < 0.5 else ("app", s, t) for s, t in pairs]
-    return pi("n", C, below[0])
+def layers(count):
+    """Layers of two rows, an application and a lambda, each over both rows of the layer below, under a pi that has to know whether its variable occurs: a row
+    stands under as many different numbers of binders as there are layers above it."""
+    first, second = var(300), var(301)
+    for i in range(count):
+        applied, bound = ("app", first, second), lam("x", second, first)
+        first, second = (applied, bound) if i % 2 else (lam("x", first, second), ("app", second, first))
+    return pi("n", C, first)
 
 
 def separate_lambdas(n):
@@ -155,8 +154,8 @@ def pools():
     for n in (60, 200):
         yield expression("an arrow over `app x x` nested %d deep, a variable loose" % n, pi("n", C, self_applied(n, var(1))))
         yield expression("two lambdas over `app x x` nested %d deep, a variable loose" % n, separate_lambdas(n))
-    for n in (60, 120, 250):
-        yield expression("%d layers of four rows, applications and lambdas, under a pi" % n, mixed_layers(n))
+    for n in (30, 45, 60, 120):
+        yield expression("%d layers of an application and a lambda, each over both of the layer below, under a pi" % n, layers(n))
 
 
 # ---- the deepest trees
