@@ -2,7 +2,7 @@
 
 The Rust refuses nothing. `cases()` gives (title, call, expected (number, place)); `judged(program)` what is wrong with the answers."""
 import product
-from pools import Builder, DECLARS, EXPRS, LEVELS, LISTS, NAMES, STRINGS, WORDS, const, of_expr
+from pools import Builder, DECLARS, EXPRS, LEVELS, LISTS, NAMES, STRINGS, WORDS, const, of_declar, of_expr
 from specimens import NAT, deep, doubled, nested_chains, pi, sort, var
 
 ARROW = pi("n", NAT, NAT)  # 17 rows, 12 text bytes, 13 listed
@@ -125,6 +125,11 @@ def called(tree, rows=7 * 17, text=12, listing=13, indent=2, width=13, root=None
     return product.Call(mode, area, words, at if root is None else root, indent, width, (rows, text, listing))
 
 
+def declared(kind, type, value=None, rows=7 * 16384):
+    area, words, root = of_declar((kind, ("k",), (), type, value))
+    return product.Call(1, area, words, root, 2, 80, (rows, 65536, 99999))
+
+
 def prints():
     yield "areas just long enough", called(ARROW), (0, 0)
     yield "no such expression", called(ARROW, root=99), (5, 0)
@@ -148,6 +153,8 @@ def prints():
     yield "1,025 names", called(many, 7 * 16384, 65536, 99999), (7, chain_row)
     yield "1,025 names, row area of 48 rows", called(many, 7 * 48, 65536, 99999), (7, chain_row)
     yield "1,025 names, row area of 47 rows", called(many, 7 * 47, 65536, 99999), (20, 47)
+    yield "1,025 names in an axiom's type", declared(0, many), (7, chain_row)
+    yield "1,025 names in a definition's value", declared(3, const("C"), many), (7, chain_row)
     literal = ("str", "a" * 65535)
     yield "65,537 text bytes", called(literal, 7 * 16384, 70000, 99999), (8, 3)
     yield "65,537 text bytes, text area of 65,536", called(literal, 7 * 16384, 65536, 99999), (8, 3)
@@ -158,6 +165,8 @@ def prints():
     yield "over 16,384 rows", called(wide, 7 * 20000, 65536, 99999), (8, 16384)
     yield "over 16,384 rows, row area of 16,384", called(wide, 7 * 16384, 65536, 99999), (8, 16384)
     yield "over 16,384 rows, row area of 16,383", called(wide, 7 * 16384 - 1, 65536, 99999), (20, 16383)
+    yield "over 16,384 rows in an axiom's type", declared(0, wide), (8, 16384)
+    yield "over 16,384 rows in a theorem's type, row area of 16,383", declared(2, wide, wide, 7 * 16383), (20, 16383)
     yield "equal types nested 40 deep", called(doubled(40), 7 * 16384, 65536, 99999), (0, 0)
 
 
