@@ -5,7 +5,7 @@ use native.Mathlib.Numerals.{add-one}
 use mathlib.Core.Bool.{Bool, true, false, _&&_, _||_}
 use mathlib.Core.List.{List, [], _∷_}
 use mathlib.Core.Path.{_≡_, refl, sym, ap, ap₂, _∙_, subst}
-use lib.ListN.{set}
+use lib.ListN.{replicate, set}
 use Rattle.pool.specs.declared.tables.Tables.{Tables}
 use Rattle.pool.specs.Tables.{Pool, E, exprWord}
 use Rattle.pool.specs.Areas.{over}
@@ -16,7 +16,7 @@ use Rattle.pool.proofs.ExprUnfolds.{loose-word}
 use Rattle.compare.specs.Seen.{packed, isHeld, Holds}
 use Rattle.compare.specs.Parts.{firstPart, secondPart, bodyPart, occursAt}
 use Rattle.compare.specs.Asked.{Ready, Absent, Search, SearchPart, Searched}
-use Rattle.compare.proofs.SeenLaws.{holds-hit, holds-put}
+use Rattle.compare.proofs.SeenLaws.{holds-none, holds-hit, holds-put}
 use Rattle.compare.proofs.PartLaws.{in-parts, first-lower, second-lower, body-lower, no-part, a-part}
 
 -- a part
@@ -112,3 +112,14 @@ module _ (bs ns ws : List ℕ) (t : Tables) (found : List ℕ) (r i : ℕ) (s : 
                 in-none no₃ slot k found₄ e e₄ =
                     let q : occurs i (exprAt (over bs ns ws) r) ≡ false = parts ∙ rw (is₁, no₁, is₂, no₂, is₃, no₃) in
                     record { answer = sym q; holds = rw e₄ (holds-put (Absent (over bs ns ws)) found₃ slot k r i 0 (a₃ .holds) e q) }
+
+-- the same two answers, with nothing kept
+module _ (bs ns ws : List ℕ) (t : Tables) (r i : ℕ) (ready : Ready bs ns ws t) (row : r < E ws) (l : ℕ) (el : l ≡ exprWord ws r 7) where
+  first : Search bs ns ws t (replicate 1 0) r
+  first = record { ready = ready; row = row; holds = holds-none (Absent (over bs ns ws)) 1 }
+
+  pub low-at-once : l ≤ i → false ≡ occurs i (exprAt (over bs ns ws) r)
+  low-at-once h = too-low bs ns ws t (replicate 1 0) r i first l el h .answer
+
+  pub last-at-once : l ≡ i + 1 → true ≡ occurs i (exprAt (over bs ns ws) r)
+  last-at-once e = the-last bs ns ws t (replicate 1 0) r i first l el e .answer

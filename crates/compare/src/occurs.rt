@@ -73,10 +73,25 @@ fn look(
     search(bytes, names, words, t, found, part - 1, i)
 }
 
-pub fn has_var(bytes: &[u8], names: &[u32], words: &[u32], t: Tables, r: usize, i: usize) -> bool
+fn search_all(bytes: &[u8], names: &[u32], words: &[u32], t: Tables, r: usize, i: usize) -> bool
     requires { ⌜ (Ready (now bytes) (now names) (now words) t) × (r < E (now words)) ⌝ }
     ensures { λ v. ⌜ v ≡ occurs i (exprAt (over (now (bytes .entry)) (now (names .entry)) (now (words .entry))) r) ⌝ }
 {
     let mut found = [0usize; 2048];
     search(bytes, names, words, t, &mut found, r, i)
+}
+
+// Most questions are answered by the row's loose word, before there is a table to clear.
+pub fn has_var(bytes: &[u8], names: &[u32], words: &[u32], t: Tables, r: usize, i: usize) -> bool
+    requires { ⌜ (Ready (now bytes) (now names) (now words) t) × (r < E (now words)) ⌝ }
+    ensures { λ v. ⌜ v ≡ occurs i (exprAt (over (now (bytes .entry)) (now (names .entry)) (now (words .entry))) r) ⌝ }
+{
+    let loose = tables::expr_word(words, t, r, 7);
+    if loose <= i {
+        return false;
+    }
+    if loose == i + 1 {
+        return true;
+    }
+    search_all(bytes, names, words, t, r, i)
 }

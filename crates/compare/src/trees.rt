@@ -247,8 +247,7 @@ fn pair(
     tree(bytes, names, words, t, known, d, x - 1, y - 1, c)
 }
 
-// Whether the tree of row a, its loose variables lifted by d, is that of row b, all fields.
-pub fn same_lifted(
+fn compare_all(
     bytes: &[u8],
     names: &[u32],
     words: &[u32],
@@ -262,4 +261,27 @@ pub fn same_lifted(
 {
     let mut known = [0usize; 2048];
     tree(bytes, names, words, t, &mut known, d, a, b, 0)
+}
+
+// Whether the tree of row a, its loose variables lifted by d, is that of row b, all fields. A first look comes before there is a table to clear.
+pub fn same_lifted(
+    bytes: &[u8],
+    names: &[u32],
+    words: &[u32],
+    t: Tables,
+    a: usize,
+    b: usize,
+    d: usize,
+) -> bool
+    requires { ⌜ (Ready (now bytes) (now names) (now words) t) × (a < E (now words)) × (b < E (now words)) ⌝ }
+    ensures { λ v. ⌜ v ≡ same (lift d 0 (exprAt (over (now (bytes .entry)) (now (names .entry)) (now (words .entry))) a)) (exprAt (over (now (bytes .entry)) (now (names .entry)) (now (words .entry))) b) ⌝ }
+{
+    let quick = glance(bytes, names, words, t, d, a, b, 0);
+    if quick == 0 {
+        return false;
+    }
+    if quick == 1 {
+        return true;
+    }
+    compare_all(bytes, names, words, t, a, b, d)
 }

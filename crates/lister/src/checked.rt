@@ -6,7 +6,7 @@ use document::sink::start;
 use layout::Laid;
 use layout::layout_accepted;
 use pool::tables::Tables;
-use pretty_printer::listing;
+use declarations::listing;
 ghost use mathlib.Core.Path.{_≡_};
 ghost use Prim.Native.Nat.{_<_, _≤_};
 ghost use Rattle.document.specs.Rows.{Accepted};

@@ -208,7 +208,7 @@ unfolding mkBinder rename
 renamed-made ρ true q a s t b = refl
 renamed-made ρ false q a s t b = refl
 
-binders-made : (i : Bool) (q : ℕ) (a : Name) (s : ℕ) (t b : Expr) →
+pub binders-made : (i : Bool) (q : ℕ) (a : Name) (s : ℕ) (t b : Expr) →
     binders (mkBinder i q a s t b) ≡ record { isPi = i; used = occurs 0 b; name = a; style = s; type = lift (suc (length (binders b))) 0 t; place = q } ∷ binders b
 unfolding mkBinder binders
 binders-made true q a s t b = refl
@@ -221,7 +221,7 @@ unfolding mkBinder
 prints-made indent ns true q a s t b = prints-pi indent ns q a s t b
 prints-made indent ns false q a s t b = prints-lam indent ns q a s t b
 
-length-renamed : (ρ : ℕ → ℕ) (e : Expr) → length (binders (rename ρ e)) ≡ chainLength e
+pub length-renamed : (ρ : ℕ → ℕ) (e : Expr) → length (binders (rename ρ e)) ≡ chainLength e
 unfolding rename binders chainLength
 length-renamed ρ (var i) = refl
 length-renamed ρ (sort l) = refl
@@ -234,7 +234,7 @@ length-renamed ρ (proj n i e) = refl
 length-renamed ρ (nat s) = refl
 length-renamed ρ (str s) = refl
 
-in-force : (x : Binder) (xs : List Binder) (outside : ℕ) (d : Marked) (st : State) → emit (inForce (x ∷ xs) outside d) st ≡ emit d (putNames (x .place) (outside + length (x ∷ xs)) st)
+pub in-force : (x : Binder) (xs : List Binder) (outside : ℕ) (d : Marked) (st : State) → emit (inForce (x ∷ xs) outside d) st ≡ emit d (putNames (x .place) (outside + length (x ∷ xs)) st)
 unfolding inForce emit
 in-force x xs outside d st = refl
 

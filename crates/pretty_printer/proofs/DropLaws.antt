@@ -62,7 +62,7 @@ module _ (p : Pool) (k : Stack) where
       }
 
   -- from a first scope that is the first entry's own
-  later : (m n : ℕ) (e : Expr) → n ≤ chainLength e → Later p k m m n e
+  pub later : (m n : ℕ) (e : Expr) → n ≤ chainLength e → Later p k m m n e
   unfolding chainLength
   later m zero e l = later-none m e
   later m (suc n) (var i) l = absurd (omega arith)

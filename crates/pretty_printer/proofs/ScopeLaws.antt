@@ -37,7 +37,7 @@ chain-length p k h m (nat s) c = omega arith
 chain-length p k h m (str s) c = omega arith
 
 -- inside a binder: the renaming goes up with the scope
-scope-up : (k : Stack) (h m : ℕ) (ρ : ℕ → ℕ) → entry k m .link ≡ h → m < k .count → ((i : ℕ) → placeIn k h i ≡ ρ i + (k .count - m)) → (i : ℕ) → placeIn k (suc m) i ≡ up ρ i + (k .count - suc m)
+pub scope-up : (k : Stack) (h m : ℕ) (ρ : ℕ → ℕ) → entry k m .link ≡ h → m < k .count → ((i : ℕ) → placeIn k h i ≡ ρ i + (k .count - m)) → (i : ℕ) → placeIn k (suc m) i ≡ up ρ i + (k .count - suc m)
 unfolding placeBy outward up
 scope-up k h m ρ l lt f zero = omega arith
 scope-up k h m ρ l lt f (suc i) = ap (placeBy k i) l ∙ f i ∙ omega arith

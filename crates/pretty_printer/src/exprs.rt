@@ -655,8 +655,8 @@ pub fn telescope(
         return s;
     }
     let style = expr_word(words, t, r, 2);
-    let type_row = expr_word(words, t, r, 3);
     let end = group_end(bytes, names, words, t, r, n);
+    let type_row = expr_word(words, t, r, 3);
     let a = open_group(rows, text, s, style, first);
     let b = pp_names(bytes, names, words, t, rows, text, a, r, end.count);
     let c = put_colon(rows, text, b);

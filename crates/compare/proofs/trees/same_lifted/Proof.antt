@@ -1,22 +1,32 @@
+use mathlib.Core.Path.{sym}
 use borrow.Author.Needs.{needs}
-use native.Mathlib.Omega.{arith}
-use Rattle.pool.specs.Areas.{over}
-use Rattle.compare.specs.Equal.{EqualTrees}
-use Rattle.compare.proofs.SeenLaws.{holds-none}
 use Rattle.compare.proofs.trees.same_lifted.Statement.{statement}
 use Rattle.compare.proofs.trees.same_lifted.Tie as tie
 use Rattle.compare.proofs.trees.same_lifted.Reads as reads
 use Rattle.compare.proofs.trees.same_lifted.Lts as lts
-use Rattle.compare.proofs.trees.tree.Reads as tree-reads
+use Rattle.compare.proofs.trees.compare_all.Reads as compare-all-reads
+use Rattle.compare.proofs.trees.glance.Reads as glance-reads
 
-slice-aggregate-tree : tie.Need-slice-aggregate-tree
-slice-aggregate-tree c = search needs
+-- src/trees.rt:279:9
+glance-requires : tie.Need-glance-requires
+glance-requires c κs = search needs
 
-tree-requires : tie.Need-tree-requires
-tree-requires c κs = record { ready = c .before .before .before .before .pre .0; a-row = c .before .before .before .before .pre .1; b-row = c .before .before .before .before .pre .2; room = omega (arith, c .before .before .before .before .pre .1, c .before .before .before .before .pre .0 .of-words .small, c .before .before .before .before .pre .0 .of-words .total); holds = holds-none (EqualTrees (over (c .before .before .before .before .args .bytes .now) (c .before .before .before .before .args .names .now) (c .before .before .before .before .args .words .now)) (c .before .before .before .before .args .d)) 2048 }
-
+-- src/trees.rt:281:9
 returns : tie.Need-returns
-returns c = c .before .tree .ensures .answer
+returns c = sym (c .before .glance .ensures .different (c .if1 .taken))
+
+-- src/trees.rt:284:9
+returns-2 : tie.Need-returns-2
+returns-2 c = sym (c .before .before .glance .ensures .equal (c .if2 .taken))
+
+-- src/trees.rt:286:5
+compare-all-requires : tie.Need-compare-all-requires
+compare-all-requires c κs = search needs
+
+-- src/trees.rt:267:1
+returns-3 : tie.Need-returns-3
+returns-3 c = search needs
 
 pub same-lifted-spec : {M : Type 1} → statement M
-same-lifted-spec = tie.close (tie.spec slice-aggregate-tree tree-requires returns)
+same-lifted-spec =
+    tie.close (tie.spec glance-requires returns returns-2 compare-all-requires returns-3)

@@ -1,0 +1,21 @@
+use borrow.Author.Needs.{needs}
+use Rattle.pool.specs.Areas.{over}
+use Rattle.compare.specs.Asked.{Absent}
+use Rattle.compare.proofs.SeenLaws.{holds-none}
+use Rattle.compare.proofs.occurs.search_all.Statement.{statement}
+use Rattle.compare.proofs.occurs.search_all.Tie as tie
+use Rattle.compare.proofs.occurs.search_all.Reads as reads
+use Rattle.compare.proofs.occurs.search_all.Lts as lts
+use Rattle.compare.proofs.occurs.search.Reads as search-reads
+
+slice-aggregate-search : tie.Need-slice-aggregate-search
+slice-aggregate-search c = search needs
+
+search-requires : tie.Need-search-requires
+search-requires c κs = record { ready = c .before .before .before .before .pre .0; row = c .before .before .before .before .pre .1; holds = holds-none (Absent (over (c .before .before .before .before .args .bytes .now) (c .before .before .before .before .args .names .now) (c .before .before .before .before .args .words .now))) 2048 }
+
+returns : tie.Need-returns
+returns c = c .before .search .ensures .answer
+
+pub search-all-spec : {M : Type 1} → statement M
+search-all-spec = tie.close (tie.spec slice-aggregate-search search-requires returns)
