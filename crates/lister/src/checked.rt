@@ -1,12 +1,12 @@
 // Prints of a pool that was checked before, so that many prints of one pool check it once.
 use crate::Answer;
+use declarations::listing;
 use document::sink::Sink;
 use document::sink::clear;
 use document::sink::start;
 use layout::Laid;
 use layout::layout_accepted;
 use pool::tables::Tables;
-use declarations::listing;
 ghost use mathlib.Core.Path.{_≡_};
 ghost use Prim.Native.Nat.{_<_, _≤_};
 ghost use Rattle.document.specs.Rows.{Accepted};

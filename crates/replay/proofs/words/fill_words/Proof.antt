@@ -1,0 +1,62 @@
+use Prim.Native.Nat.{_≤_, _-_}
+use lib.ListN.{length}
+use borrow.Author.Needs.{needs}
+use native.Mathlib.Omega.{arith}
+use mathlib.Core.Path.{_≡_, refl}
+use Rattle.replay.proofs.words.fill_words.Statement.{statement}
+use Rattle.replay.proofs.words.fill_words.Tie as tie
+use Rattle.replay.proofs.words.fill_words.Reads as reads
+use Rattle.replay.proofs.words.fill_words.Lts as lts
+
+abbrev Inv-loop : tie.InvT-loop
+Inv-loop area₀ v i₀ area i = length area ≡ length area₀
+
+abbrev μ-loop : tie.MeasureT-loop
+μ-loop area₀ v i₀ area i = length area₀ - i
+
+-- src/words.rt:13:5
+loop-holds : tie.Need-loop-holds Inv-loop μ-loop
+loop-holds c = search needs
+
+-- src/words.rt:14:9
+mul-area : tie.Need-mul-area Inv-loop μ-loop
+mul-area c = omega arith
+
+-- src/words.rt:14:9
+slice-write-area : tie.Need-slice-write-area Inv-loop μ-loop
+slice-write-area c = omega arith
+
+-- src/words.rt:15:9
+add-i : tie.Need-add-i Inv-loop μ-loop
+add-i c = omega arith
+
+-- src/words.rt:13:5
+loop-less : tie.Need-loop-less Inv-loop μ-loop
+loop-less c = omega arith
+
+-- src/words.rt:13:5
+loop-again : tie.Need-loop-again Inv-loop μ-loop
+loop-again c = search needs
+
+-- src/words.rt:11:1
+same-length : tie.Need-same-length Inv-loop μ-loop
+same-length c = search needs
+
+-- src/words.rt:11:1
+returns : tie.Need-returns Inv-loop μ-loop
+returns c = search needs
+
+pub fill-words-spec : {M : Type 1} → statement M
+fill-words-spec =
+    tie.close
+    (tie.spec
+    Inv-loop
+    μ-loop
+    loop-holds
+    mul-area
+    slice-write-area
+    add-i
+    loop-less
+    loop-again
+    same-length
+    returns)
