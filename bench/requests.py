@@ -154,7 +154,7 @@ def pools():
     for n in (60, 200):
         yield expression("an arrow over `app x x` nested %d deep, a variable loose" % n, pi("n", C, self_applied(n, var(1))))
         yield expression("two lambdas over `app x x` nested %d deep, a variable loose" % n, separate_lambdas(n))
-    for n in (30, 45, 60, 120):
+    for n in (30, 45, 60, 120, 240):
         yield expression("%d layers of an application and a lambda, each over both of the layer below, under a pi" % n, layers(n))
 
 

@@ -4,3 +4,4 @@ pub mod SearchLaws
 pub mod NameLaws
 pub mod LevelLaws
 pub mod EqualLaws
+pub mod TriedLaws

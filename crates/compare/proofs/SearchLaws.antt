@@ -51,7 +51,7 @@ module _ (bs ns ws : List ℕ) (t : Tables) (found : List ℕ) (r i : ℕ) (s : 
 
   -- its kind, and its parts
   module _ (n : l ≡ i + 1 → ⊥) (kind : ℕ) (ek : kind ≡ exprWord ws r 0) where
-    parts : occurs i (exprAt (over bs ns ws) r)
+    pub parts : occurs i (exprAt (over bs ns ws) r)
         ≡ occursAt (over bs ns ws) i (firstPart ws r kind)
         || (occursAt (over bs ns ws) i (secondPart ws r kind) || occursAt (over bs ns ws) (suc i) (bodyPart ws r kind))
     parts =
@@ -59,13 +59,13 @@ module _ (bs ns ws : List ℕ) (t : Tables) (found : List ℕ) (r i : ℕ) (s : 
         ∙ ap (λ (k : ℕ). occursAt (over bs ns ws) i (firstPart ws r k)
         || (occursAt (over bs ns ws) i (secondPart ws r k) || occursAt (over bs ns ws) (suc i) (bodyPart ws r k))) (sym ek)
 
-    first-row : (first : ℕ) → first ≡ firstPart ws r kind → first ≤ r
+    pub first-row : (first : ℕ) → first ≡ firstPart ws r kind → first ≤ r
     first-row first e = rw (e, ek) (first-lower (over bs ns ws) (s .ready .sound) r (s .row))
 
-    second-row : (second : ℕ) → second ≡ secondPart ws r kind → second ≤ r
+    pub second-row : (second : ℕ) → second ≡ secondPart ws r kind → second ≤ r
     second-row second e = rw (e, ek) (second-lower (over bs ns ws) (s .ready .sound) r (s .row))
 
-    body-row : (body : ℕ) → body ≡ bodyPart ws r kind → body ≤ r
+    pub body-row : (body : ℕ) → body ≡ bodyPart ws r kind → body ≤ r
     body-row body e = rw (e, ek) (body-lower (over bs ns ws) (s .ready .sound) r (s .row))
 
     module _ (first : ℕ) (e₁ : first ≡ firstPart ws r kind) where
@@ -115,11 +115,11 @@ module _ (bs ns ws : List ℕ) (t : Tables) (found : List ℕ) (r i : ℕ) (s : 
 
 -- the same two answers, with nothing kept
 module _ (bs ns ws : List ℕ) (t : Tables) (r i : ℕ) (ready : Ready bs ns ws t) (row : r < E ws) (l : ℕ) (el : l ≡ exprWord ws r 7) where
-  first : Search bs ns ws t (replicate 1 0) r
-  first = record { ready = ready; row = row; holds = holds-none (Absent (over bs ns ws)) 1 }
+  pub asked-first : Search bs ns ws t (replicate 1 0) r
+  asked-first = record { ready = ready; row = row; holds = holds-none (Absent (over bs ns ws)) 1 }
 
   pub low-at-once : l ≤ i → false ≡ occurs i (exprAt (over bs ns ws) r)
-  low-at-once h = too-low bs ns ws t (replicate 1 0) r i first l el h .answer
+  low-at-once h = too-low bs ns ws t (replicate 1 0) r i asked-first l el h .answer
 
   pub last-at-once : l ≡ i + 1 → true ≡ occurs i (exprAt (over bs ns ws) r)
-  last-at-once e = the-last bs ns ws t (replicate 1 0) r i first l el e .answer
+  last-at-once e = the-last bs ns ws t (replicate 1 0) r i asked-first l el e .answer

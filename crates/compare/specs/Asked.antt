@@ -38,3 +38,8 @@ pub record SearchPart (bs ns ws : List ℕ) (t : Tables) (seen : List ℕ) (part
 pub record Searched (p : Pool) (asked : Bool) (seen : List ℕ) (v : Bool) : Type 0 where
   pub answer : v ≡ asked
   pub holds : Holds (Absent p) seen
+
+-- what a short search tells
+pub record Told (asked : Bool) (v : ℕ) : Type 0 where
+  pub no : v ≡ 0 → asked ≡ false
+  pub yes : v ≡ 1 → asked ≡ true

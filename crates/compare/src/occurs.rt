@@ -4,13 +4,13 @@ use super::seen;
 use pool::tables;
 use pool::tables::Tables;
 ghost use mathlib.Core.Path.{_≡_};
-ghost use Prim.Native.Nat.{_+_, _<_};
+ghost use Prim.Native.Nat.{_+_, _<_, _≤_};
 ghost use Rattle.pool.specs.Areas.{over};
 ghost use Rattle.pool.specs.Tables.{E};
 ghost use Rattle.pool.specs.Tree.{occurs};
 ghost use Rattle.pool.specs.Unfold.{exprAt};
 ghost use Rattle.compare.specs.Parts.{occursAt};
-ghost use Rattle.compare.specs.Asked.{Ready, Search, SearchPart, Searched};
+ghost use Rattle.compare.specs.Asked.{Told, Ready, Search, SearchPart, Searched};
 
 // A row is searched once for each variable, unless what was answered of it was overwritten.
 fn search(
@@ -73,24 +73,91 @@ fn look(
     search(bytes, names, words, t, found, part - 1, i)
 }
 
+// What a short search tells: 0 that the variable does not occur, 1 that it does, 2 nothing, for want of steps; and the steps left.
+pub struct Tried {
+    pub answer: usize,
+    pub left: usize,
+}
+
+// The same search in a number of steps, and with no table.
+fn try_row(
+    bytes: &[u8],
+    names: &[u32],
+    words: &[u32],
+    t: Tables,
+    r: usize,
+    i: usize,
+    steps: usize,
+) -> Tried
+    requires { ⌜ (Ready (now bytes) (now names) (now words) t) × (r < E (now words)) ⌝ }
+    ensures { λ v. ⌜ Told (occurs i (exprAt (over (now (bytes .entry)) (now (names .entry)) (now (words .entry))) r)) (v .answer) ⌝ }
+{
+    if steps == 0 {
+        return Tried { answer: 2, left: 0 };
+    }
+    let left = steps - 1;
+    let loose = tables::expr_word(words, t, r, 7);
+    if loose <= i {
+        return Tried { answer: 0, left };
+    }
+    if loose == i + 1 {
+        return Tried { answer: 1, left };
+    }
+    let kind = tables::expr_word(words, t, r, 0);
+    let first = parts::first_part(words, t, r, kind);
+    let a = try_part(bytes, names, words, t, first, i, left);
+    if a.answer != 0 {
+        return a;
+    }
+    let second = parts::second_part(words, t, r, kind);
+    let b = try_part(bytes, names, words, t, second, i, a.left);
+    if b.answer != 0 {
+        return b;
+    }
+    let body = parts::body_part(words, t, r, kind);
+    try_part(bytes, names, words, t, body, i + 1, b.left)
+}
+
+fn try_part(
+    bytes: &[u8],
+    names: &[u32],
+    words: &[u32],
+    t: Tables,
+    part: usize,
+    i: usize,
+    steps: usize,
+) -> Tried
+    requires { ⌜ (Ready (now bytes) (now names) (now words) t) × (part ≤ E (now words)) ⌝ }
+    ensures { λ v. ⌜ Told (occursAt (over (now (bytes .entry)) (now (names .entry)) (now (words .entry))) i part) (v .answer) ⌝ }
+{
+    if part == 0 {
+        return Tried {
+            answer: 0,
+            left: steps,
+        };
+    }
+    try_row(bytes, names, words, t, part - 1, i, steps)
+}
+
+// The long search: its table is large, since a pool of few rows can ask of many (row, variable).
 fn search_all(bytes: &[u8], names: &[u32], words: &[u32], t: Tables, r: usize, i: usize) -> bool
     requires { ⌜ (Ready (now bytes) (now names) (now words) t) × (r < E (now words)) ⌝ }
     ensures { λ v. ⌜ v ≡ occurs i (exprAt (over (now (bytes .entry)) (now (names .entry)) (now (words .entry))) r) ⌝ }
 {
-    let mut found = [0usize; 2048];
+    let mut found = [0usize; 65536];
     search(bytes, names, words, t, &mut found, r, i)
 }
 
-// Most questions are answered by the row's loose word, before there is a table to clear.
+// Most questions are answered in few steps, before there is a table to clear.
 pub fn has_var(bytes: &[u8], names: &[u32], words: &[u32], t: Tables, r: usize, i: usize) -> bool
     requires { ⌜ (Ready (now bytes) (now names) (now words) t) × (r < E (now words)) ⌝ }
     ensures { λ v. ⌜ v ≡ occurs i (exprAt (over (now (bytes .entry)) (now (names .entry)) (now (words .entry))) r) ⌝ }
 {
-    let loose = tables::expr_word(words, t, r, 7);
-    if loose <= i {
+    let tried = try_row(bytes, names, words, t, r, i, 4096);
+    if tried.answer == 0 {
         return false;
     }
-    if loose == i + 1 {
+    if tried.answer == 1 {
         return true;
     }
     search_all(bytes, names, words, t, r, i)

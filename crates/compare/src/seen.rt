@@ -19,12 +19,12 @@ pub fn key(a: usize, b: usize, c: usize) -> usize
     (a * 16777216 + b) * 16384 + c + 1
 }
 
-// Where a key goes: no proof depends on it.
+// Where the key of a, b and c goes: at 256 a + b + c, so that rows near each other have no slot in common. No proof depends on it.
 pub fn slot(k: usize, len: usize) -> usize {
     if len == 0 {
         return 0;
     }
-    k % 4294967291 * 2654435761 / 65536 % len
+    (k / 274877906944 * 256 + k / 16384 % 16777216 + k % 16384) % len
 }
 
 pub fn held(seen: &[usize], slot: usize, k: usize) -> bool

@@ -12,7 +12,7 @@ slice-aggregate-search : tie.Need-slice-aggregate-search
 slice-aggregate-search c = search needs
 
 search-requires : tie.Need-search-requires
-search-requires c κs = record { ready = c .before .before .before .before .pre .0; row = c .before .before .before .before .pre .1; holds = holds-none (Absent (over (c .before .before .before .before .args .bytes .now) (c .before .before .before .before .args .names .now) (c .before .before .before .before .args .words .now))) 2048 }
+search-requires c κs = record { ready = c .before .before .before .before .pre .0; row = c .before .before .before .before .pre .1; holds = holds-none (Absent (over (c .before .before .before .before .args .bytes .now) (c .before .before .before .before .args .names .now) (c .before .before .before .before .args .words .now))) 65536 }
 
 returns : tie.Need-returns
 returns c = c .before .search .ensures .answer
