@@ -33,7 +33,7 @@ fn search(
         return true;
     }
     let k = seen::key(r, i, 0);
-    let at = seen::slot(k, found.len());
+    let at = seen::row_slot(k, found.len());
     if seen::held(found, at, k) {
         return false;
     }
@@ -148,17 +148,35 @@ fn search_all(bytes: &[u8], names: &[u32], words: &[u32], t: Tables, r: usize, i
     search(bytes, names, words, t, &mut found, r, i)
 }
 
-// Most questions are answered in few steps, before there is a table to clear.
-pub fn has_var(bytes: &[u8], names: &[u32], words: &[u32], t: Tables, r: usize, i: usize) -> bool
-    requires { ⌜ (Ready (now bytes) (now names) (now words) t) × (r < E (now words)) ⌝ }
+// Most questions are answered in few steps, before there is a table to clear; else sixteen times as many are tried.
+fn settle(
+    bytes: &[u8],
+    names: &[u32],
+    words: &[u32],
+    t: Tables,
+    r: usize,
+    i: usize,
+    steps: usize,
+) -> bool
+    requires { ⌜ (Ready (now bytes) (now names) (now words) t) × (r < E (now words)) × (0 < steps) ⌝ }
     ensures { λ v. ⌜ v ≡ occurs i (exprAt (over (now (bytes .entry)) (now (names .entry)) (now (words .entry))) r) ⌝ }
 {
-    let tried = try_row(bytes, names, words, t, r, i, 4096);
+    let tried = try_row(bytes, names, words, t, r, i, steps);
     if tried.answer == 0 {
         return false;
     }
     if tried.answer == 1 {
         return true;
     }
+    if steps < 65536 {
+        return settle(bytes, names, words, t, r, i, steps * 16);
+    }
     search_all(bytes, names, words, t, r, i)
+}
+
+pub fn has_var(bytes: &[u8], names: &[u32], words: &[u32], t: Tables, r: usize, i: usize) -> bool
+    requires { ⌜ (Ready (now bytes) (now names) (now words) t) × (r < E (now words)) ⌝ }
+    ensures { λ v. ⌜ v ≡ occurs i (exprAt (over (now (bytes .entry)) (now (names .entry)) (now (words .entry))) r) ⌝ }
+{
+    settle(bytes, names, words, t, r, i, 256)
 }

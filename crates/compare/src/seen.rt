@@ -19,12 +19,20 @@ pub fn key(a: usize, b: usize, c: usize) -> usize
     (a * 16777216 + b) * 16384 + c + 1
 }
 
-// Where the key of a, b and c goes: at 256 a + b + c, so that rows near each other have no slot in common. No proof depends on it.
+// Where a key goes: no proof depends on it.
 pub fn slot(k: usize, len: usize) -> usize {
     if len == 0 {
         return 0;
     }
-    (k / 274877906944 * 256 + k / 16384 % 16777216 + k % 16384) % len
+    k % 4294967291 * 2654435761 / 65536 % len
+}
+
+// The same where a is a row and b a variable of it: at 256 a + b, so that rows near each other have no slot in common.
+pub fn row_slot(k: usize, len: usize) -> usize {
+    if len == 0 {
+        return 0;
+    }
+    (k / 274877906944 * 256 + k / 16384 % 16777216) % len
 }
 
 pub fn held(seen: &[usize], slot: usize, k: usize) -> bool

@@ -263,23 +263,6 @@ fn compare_all(
     tree(bytes, names, words, t, &mut known, d, a, b, 0)
 }
 
-// The same of deep trees, with a large table: a pool of few rows can ask of many (row, row, c).
-fn compare_deep(
-    bytes: &[u8],
-    names: &[u32],
-    words: &[u32],
-    t: Tables,
-    a: usize,
-    b: usize,
-    d: usize,
-) -> bool
-    requires { ⌜ (Ready (now bytes) (now names) (now words) t) × (a < E (now words)) × (b < E (now words)) ⌝ }
-    ensures { λ v. ⌜ v ≡ same (lift d 0 (exprAt (over (now (bytes .entry)) (now (names .entry)) (now (words .entry))) a)) (exprAt (over (now (bytes .entry)) (now (names .entry)) (now (words .entry))) b) ⌝ }
-{
-    let mut known = [0usize; 65536];
-    tree(bytes, names, words, t, &mut known, d, a, b, 0)
-}
-
 // Whether the tree of row a, its loose variables lifted by d, is that of row b, all fields. A first look comes before there is a table to clear.
 pub fn same_lifted(
     bytes: &[u8],
@@ -299,9 +282,6 @@ pub fn same_lifted(
     }
     if quick == 1 {
         return true;
-    }
-    if tables::expr_word(words, t, a, 6) > 32 {
-        return compare_deep(bytes, names, words, t, a, b, d);
     }
     compare_all(bytes, names, words, t, a, b, d)
 }

@@ -17,7 +17,7 @@ use Rattle.compare.proofs.parts.second_part.Reads as second-part-reads
 use Rattle.compare.proofs.seen.held.Reads as held-reads
 use Rattle.compare.proofs.seen.keep.Reads as keep-reads
 use Rattle.compare.proofs.seen.key.Reads as key-reads
-use Rattle.compare.proofs.seen.slot.Reads as slot-reads
+use Rattle.compare.proofs.seen.row_slot.Reads as row-slot-reads
 use Rattle.pool.proofs.tables.expr_word.Reads as expr-word-reads
 use Rattle.compare.proofs.occurs.+look+search.{statement}
 use Rattle.compare.proofs.occurs.+look+search.Tie.{close}
@@ -44,7 +44,7 @@ abbrev look-cs : ℕ → look-lts.Claims
 look-cs t = (search-below t, search′.Post)
 
 abbrev search-cs : ℕ → search-lts.Claims
-search-cs t = (expr-word-reads.Asked, expr-word-reads.Learnt, key-reads.Asked, key-reads.Learnt, slot-reads.Asked, slot-reads.Learnt, held-reads.Asked, held-reads.Learnt, first-part-reads.Asked, first-part-reads.Learnt, look-below t, look.Post, second-part-reads.Asked, second-part-reads.Learnt, body-part-reads.Asked, body-part-reads.Learnt, keep-reads.Asked, keep-reads.Learnt)
+search-cs t = (expr-word-reads.Asked, expr-word-reads.Learnt, key-reads.Asked, key-reads.Learnt, row-slot-reads.Asked, row-slot-reads.Learnt, held-reads.Asked, held-reads.Learnt, first-part-reads.Asked, first-part-reads.Learnt, look-below t, look.Post, second-part-reads.Asked, second-part-reads.Learnt, body-part-reads.Asked, body-part-reads.Learnt, keep-reads.Asked, keep-reads.Learnt)
 
 look-returns : (t : ℕ) → look-lts.Need-returns (look-cs t) (look-at t) look.Post
 look-returns t c = not-there _ _ _ _ _ _ (c .before .before .before .before .before .args .i) (c .before .before .before .before .before .pre .1) (c .if1 .taken)
@@ -76,8 +76,8 @@ search-returns-2 t c = the-last _ _ _ _ _ _ (c .before .before .before .before .
 search-key-requires : (t : ℕ) → search-lts.Need-key-requires (search-cs t) (search-at t) search′.Post
 search-key-requires t c κs = tt
 
-search-slot-requires : (t : ℕ) → search-lts.Need-slot-requires (search-cs t) (search-at t) search′.Post
-search-slot-requires t c κs = tt
+search-row-slot-requires : (t : ℕ) → search-lts.Need-row-slot-requires (search-cs t) (search-at t) search′.Post
+search-row-slot-requires t c κs = tt
 
 search-held-requires : (t : ℕ) → search-lts.Need-held-requires (search-cs t) (search-at t) search′.Post
 search-held-requires t c κs = tt
@@ -86,7 +86,7 @@ search-same-length : (t : ℕ) → search-lts.Need-same-length (search-cs t) (se
 search-same-length t c = search needs
 
 search-returns-3 : (t : ℕ) → search-lts.Need-returns-3 (search-cs t) (search-at t) search′.Post
-search-returns-3 t c = was-held _ _ _ _ _ _ (c .before .before .before .before .before .before .before .before .before .before .before .before .args .i) (c .before .before .before .before .before .before .before .before .before .before .before .before .pre .1) _ (c .before .before .before .before .before .before .before .expr-word .ensures .0) (c .before .before .before .slot .result) _ _ (c .before .before .before .before .key .ensures) (c .before .held .ensures) (c .if3 .taken)
+search-returns-3 t c = was-held _ _ _ _ _ _ (c .before .before .before .before .before .before .before .before .before .before .before .before .args .i) (c .before .before .before .before .before .before .before .before .before .before .before .before .pre .1) _ (c .before .before .before .before .before .before .before .expr-word .ensures .0) (c .before .before .before .row-slot .result) _ _ (c .before .before .before .before .key .ensures) (c .before .held .ensures) (c .if3 .taken)
 
 search-expr-word-requires-2 : (t : ℕ) → search-lts.Need-expr-word-requires-2 (search-cs t) (search-at t) search′.Post
 search-expr-word-requires-2 t c κs = (c .before .before .before .before .before .before .before .before .before .before .before .before .pre .1 .ready .of-words, omega arith)
@@ -146,7 +146,7 @@ search-same-length-5 : (t : ℕ) → search-lts.Need-same-length-5 (search-cs t)
 search-same-length-5 t c = c .before .before .keep .kept .0 ∙ c .before .before .before .before .before .before .before .look3 .kept .1 .1 .1 .1 .0 ∙ c .before .before .before .before .before .before .before .before .before .before .before .before .before .look2 .kept .1 .1 .1 .1 .0 ∙ c .before .before .before .before .before .before .before .before .before .before .before .before .before .before .before .before .before .before .before .look .kept .1 .1 .1 .1 .0
 
 search-returns-7 : (t : ℕ) → search-lts.Need-returns-7 (search-cs t) (search-at t) search′.Post
-search-returns-7 t c = in-none _ _ _ _ _ _ (c .before .before .before .before .before .before .before .before .before .before .before .before .before .before .before .before .before .before .before .before .before .before .before .before .before .before .before .before .before .before .before .before .before .before .before .args .i) (c .before .before .before .before .before .before .before .before .before .before .before .before .before .before .before .before .before .before .before .before .before .before .before .before .before .before .before .before .before .before .before .before .before .before .before .pre .1) _ (c .before .before .before .before .before .before .before .before .before .before .before .before .before .before .before .before .before .before .before .before .before .before .before .before .before .before .before .before .before .before .expr-word .ensures .0) (c .before .before .before .before .before .before .before .before .before .before .before .before .before .before .before .before .before .before .before .before .before .before .before .before .before .before .before .before .if2 .left) _ (c .before .before .before .before .before .before .before .before .before .before .before .before .before .before .before .before .before .before .before .before .before .before .expr-word2 .ensures .0) _ (c .before .before .before .before .before .before .before .before .before .before .before .before .before .before .before .before .before .before .before .before .before .first-part .ensures) _ _ (c .before .before .before .before .before .before .before .before .before .before .before .before .before .before .before .before .before .before .before .look .ensures) (c .before .before .before .before .before .before .before .before .before .before .before .before .before .before .before .before .if4 .left) _ (c .before .before .before .before .before .before .before .before .before .before .before .before .before .before .before .second-part .ensures) _ _ (c .before .before .before .before .before .before .before .before .before .before .before .before .before .look2 .ensures) (c .before .before .before .before .before .before .before .before .before .before .if5 .left) _ (c .before .before .before .before .before .before .before .before .before .body-part .ensures) _ _ (c .before .before .before .before .before .before .before .look3 .ensures) (c .before .before .before .before .if6 .left) (c .before .before .before .before .before .before .before .before .before .before .before .before .before .before .before .before .before .before .before .before .before .before .before .before .before .before .slot .result) _ _ (c .before .before .before .before .before .before .before .before .before .before .before .before .before .before .before .before .before .before .before .before .before .before .before .before .before .before .before .key .ensures) (c .before .before .keep .ensures)
+search-returns-7 t c = in-none _ _ _ _ _ _ (c .before .before .before .before .before .before .before .before .before .before .before .before .before .before .before .before .before .before .before .before .before .before .before .before .before .before .before .before .before .before .before .before .before .before .before .args .i) (c .before .before .before .before .before .before .before .before .before .before .before .before .before .before .before .before .before .before .before .before .before .before .before .before .before .before .before .before .before .before .before .before .before .before .before .pre .1) _ (c .before .before .before .before .before .before .before .before .before .before .before .before .before .before .before .before .before .before .before .before .before .before .before .before .before .before .before .before .before .before .expr-word .ensures .0) (c .before .before .before .before .before .before .before .before .before .before .before .before .before .before .before .before .before .before .before .before .before .before .before .before .before .before .before .before .if2 .left) _ (c .before .before .before .before .before .before .before .before .before .before .before .before .before .before .before .before .before .before .before .before .before .before .expr-word2 .ensures .0) _ (c .before .before .before .before .before .before .before .before .before .before .before .before .before .before .before .before .before .before .before .before .before .first-part .ensures) _ _ (c .before .before .before .before .before .before .before .before .before .before .before .before .before .before .before .before .before .before .before .look .ensures) (c .before .before .before .before .before .before .before .before .before .before .before .before .before .before .before .before .if4 .left) _ (c .before .before .before .before .before .before .before .before .before .before .before .before .before .before .before .second-part .ensures) _ _ (c .before .before .before .before .before .before .before .before .before .before .before .before .before .look2 .ensures) (c .before .before .before .before .before .before .before .before .before .before .if5 .left) _ (c .before .before .before .before .before .before .before .before .before .body-part .ensures) _ _ (c .before .before .before .before .before .before .before .look3 .ensures) (c .before .before .before .before .if6 .left) (c .before .before .before .before .before .before .before .before .before .before .before .before .before .before .before .before .before .before .before .before .before .before .before .before .before .before .row-slot .result) _ _ (c .before .before .before .before .before .before .before .before .before .before .before .before .before .before .before .before .before .before .before .before .before .before .before .before .before .before .before .key .ensures) (c .before .before .keep .ensures)
 
 pub +look+search-spec : {M : Type 1} → statement M
 +look+search-spec =
@@ -167,7 +167,7 @@ pub +look+search-spec : {M : Type 1} → statement M
     (search-add-if2 t)
     (search-returns-2 t)
     (search-key-requires t)
-    (search-slot-requires t)
+    (search-row-slot-requires t)
     (search-held-requires t)
     (search-same-length t)
     (search-returns-3 t)

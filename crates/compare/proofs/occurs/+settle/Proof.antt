@@ -1,0 +1,69 @@
+use native.Mathlib.Omega.{arith}
+use mathlib.Core.Path.{sym}
+use Prim.Native.Nat.{ℕ, _-_, _*_, _<_, _≤_}
+use borrow.Fn.Kinds.{In}
+use borrow.Fn.PlainCycle.{Measures, is, falls, and}
+use Rattle.compare.proofs.occurs.settle.Reads as settle
+use Rattle.compare.proofs.occurs.settle.Kinds as settle-kinds
+use Rattle.compare.proofs.occurs.+settle.Lts-settle as settle-lts
+use Rattle.compare.proofs.occurs.search_all.Reads as search-all-reads
+use Rattle.compare.proofs.occurs.try_row.Reads as try-row-reads
+use Rattle.compare.proofs.occurs.+settle.{statement}
+use Rattle.compare.proofs.occurs.+settle.Tie.{close}
+
+abbrev μ-settle : Measures 3 settle-kinds.ps ℕ
+μ-settle κs a = 1048576 - a .1 .1 .1 .1 .1 .1 .0
+
+abbrev settle-at : ℕ → In 3 settle-kinds.ps
+settle-at t = and 3 settle-kinds.ps (is 3 settle-kinds.ps μ-settle t) settle.Pre
+
+abbrev settle-below : ℕ → In 3 settle-kinds.ps
+settle-below t = and 3 settle-kinds.ps (falls 3 settle-kinds.ps _<_ μ-settle t) settle.Pre
+
+abbrev settle-cs : ℕ → settle-lts.Claims
+settle-cs t = (try-row-reads.Asked, try-row-reads.Learnt, settle-below t, settle.Post, search-all-reads.Asked, search-all-reads.Learnt)
+
+-- src/occurs.rt:164:9
+settle-try-row-requires : (t : ℕ) → settle-lts.Need-try-row-requires (settle-cs t) (settle-at t) settle.Post
+settle-try-row-requires t c κs = (c .before .before .before .pre .1 .0, c .before .before .before .pre .1 .1)
+
+-- src/occurs.rt:166:9
+settle-returns : (t : ℕ) → settle-lts.Need-returns (settle-cs t) (settle-at t) settle.Post
+settle-returns t c = sym (c .before .before .try-row .ensures .no (c .if1 .taken))
+
+-- src/occurs.rt:169:9
+settle-returns-2 : (t : ℕ) → settle-lts.Need-returns-2 (settle-cs t) (settle-at t) settle.Post
+settle-returns-2 t c = sym (c .before .before .before .before .try-row .ensures .yes (c .if2 .taken))
+
+-- src/occurs.rt:172:53
+settle-mul-settle : (t : ℕ) → settle-lts.Need-mul-settle (settle-cs t) (settle-at t) settle.Post
+settle-mul-settle t c = omega arith
+
+-- src/occurs.rt:172:9
+settle-settle-requires : (t : ℕ) → settle-lts.Need-settle-requires (settle-cs t) (settle-at t) settle.Post
+settle-settle-requires t c κs = (omega (arith, c .before .before .before .before .before .before .before .before .before .pre .0, c .before .before .before .before .before .before .before .before .before .pre .1 .2), (c .before .before .before .before .before .before .before .before .before .pre .1 .0, c .before .before .before .before .before .before .before .before .before .pre .1 .1, omega (arith, c .before .before .before .before .before .before .before .before .before .pre .1 .2)))
+
+-- src/occurs.rt:172:9
+settle-returns-3 : (t : ℕ) → settle-lts.Need-returns-3 (settle-cs t) (settle-at t) settle.Post
+settle-returns-3 t c = c .settle .ensures
+
+-- src/occurs.rt:174:5
+settle-search-all-requires : (t : ℕ) → settle-lts.Need-search-all-requires (settle-cs t) (settle-at t) settle.Post
+settle-search-all-requires t c κs = (c .before .before .before .before .before .before .before .before .before .pre .1 .0, c .before .before .before .before .before .before .before .before .before .pre .1 .1)
+
+-- src/occurs.rt:152:1
+settle-returns-4 : (t : ℕ) → settle-lts.Need-returns-4 (settle-cs t) (settle-at t) settle.Post
+settle-returns-4 t c = c .search-all .ensures
+
+pub +settle-spec : {M : Type 1} → statement M
++settle-spec = close μ-settle λ t. settle-lts.spec (settle-cs t)
+    (settle-at t)
+    settle.Post
+    (settle-try-row-requires t)
+    (settle-returns t)
+    (settle-returns-2 t)
+    (settle-mul-settle t)
+    (settle-settle-requires t)
+    (settle-returns-3 t)
+    (settle-search-all-requires t)
+    (settle-returns-4 t)
