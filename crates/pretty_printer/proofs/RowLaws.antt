@@ -65,7 +65,7 @@ module _ {bs ns ws : List ℕ} {t : Tables} {k : Stack} {h r : ℕ} (a : Asked b
   pub asked-below : (x : ℕ) → x < r → Asked bs ns ws t k h x
   asked-below x l = record { pool = a .pool; held = a .held; scope = a .scope; row = omega (arith, a .row) }
 
-  -- the same row, by another number
+  -- there are ten kinds
   pub kind-of : w 0 < 10
   kind-of = kind-small p sound r (a .row)
 
