@@ -3,9 +3,9 @@
     specimens.py            prints each specimen and each difference
     specimens.py --smallest counts the differences among all small chains
 """
+import itertools
 import sys
 from collections import Counter, namedtuple
-from itertools import product
 
 import model
 import product
@@ -183,18 +183,18 @@ def shared_closed(n):
 
 def all_chains(length):
     """(what, mode, tree) of every chain of this length: lambdas over three types; three roles as expression and as axiom."""
-    for types in product("ABC", repeat=length):
+    for types in itertools.product("ABC", repeat=length):
         e = const("P")
         for i in range(length - 1, -1, -1):
             e = lam("abcd"[i], const(types[i]), e)
         yield "types", EXPRESSION, e
-    for roles in product("fal", repeat=length):
+    for roles in itertools.product("fal", repeat=length):
         yield "roles", EXPRESSION, binders(roles, const("P"))
         yield "roles in an axiom", DECLARATION, axiom(binders(roles, const("P")))
 
 
 def smallest(program):
-    """How many chains of two, three and four binders differ: what DIFFERENCES-notes.md calls smallest."""
+    """How many chains of two, three and four binders differ: what docs/DIFFERENCES.md calls smallest."""
     for length in (2, 3, 4):
         chains = [(what, mode) + (of_expr if mode == EXPRESSION else of_declar)(tree) for what, mode, tree in all_chains(length)]
         counted = Counter()
@@ -283,10 +283,10 @@ def show(program):
 
 if __name__ == "__main__":
     program, why = rust.build()
+    if sys.argv[1:] == ["--smallest"]:
+        sys.exit(smallest(program) if program else "No comparison with the Rust: %s." % why)
     if program is None:
         print("No comparison with the Rust: %s." % why)
-    elif sys.argv[1:] == ["--smallest"]:
-        sys.exit(smallest(program))
     show(program)
     results = list(judged(program))
     for good, what in results:
