@@ -19,6 +19,7 @@ fn main() {
 /// The folder of the library, made anew if its sources have changed.
 fn built(here: &Path, top: &Path) -> PathBuf {
     println!("cargo:rerun-if-changed={}", top.join("crates").display());
+    println!("cargo:rerun-if-changed={}", top.join("crates.txt").display());
     let done = Command::new(here.join("build-library")).status();
     if !done.as_ref().is_ok_and(|s| s.success()) {
         panic!("rust/build-library did not make the static library ({done:?}); TILUSORGU_LIB_DIR can name a folder that has liblister_c.a");
