@@ -25,11 +25,12 @@ Subjects = namedtuple("Subjects", "published product")
 
 
 class Tally:
-    """What has been compared; the first few failures are shown."""
+    """What has been compared and what was left out; the first few failures are shown."""
 
     def __init__(self):
         self.passed = self.failed = 0
         self.figures = Counter()
+        self.left_out = []
 
     def judge(self, good, *what):
         if good:
@@ -38,6 +39,18 @@ class Tally:
         self.failed += 1
         if self.failed <= 10:
             print("FAILED:", *what)
+
+    def broken(self, what):
+        self.failed += 1
+        print("FAILED:", what)
+
+    def report(self):
+        for name, figure in self.figures.items():
+            print("%s: %d" % (name, figure))
+        for what in self.left_out:
+            print("left out: %s" % what)
+        skipped = ", %d skipped" % len(self.left_out) if self.left_out else ""
+        print("%d passed, %d failed%s" % (self.passed, self.failed, skipped))
 
 
 def expected(pool, request):
@@ -284,20 +297,19 @@ def options():
     return o.parse_args()
 
 
-def subjects_of(o):
-    """The programs that are at hand; says in a line each why one is not."""
-    published, why = (None, "asked not to") if o.no_rust else rust.build()
-    if published is None:
-        print("No comparison with the Rust: %s." % why)
-    program, why = (None, "asked not to") if o.no_product else product.build()
+def subject(what, build, tally):
+    """The program, if there is one that works: one that is not at hand is left out, one that does not work is a failure."""
+    try:
+        program, why = build()
+    except rust.Broken as e:
+        tally.broken(e)
+        return None
     if program is None:
-        print("No comparison with the product: %s." % why)
-    return Subjects(published, program)
+        tally.left_out.append("the comparison with %s: %s" % (what, why))
+    return program
 
 
-def main():
-    o, tally, start = options(), Tally(), time.time()
-    subjects = subjects_of(o)
+def compare(o, subjects, tally):
     if not o.corpus_alone:
         fixed_inputs(subjects, tally)
         directed_prints(subjects, tally)
@@ -307,10 +319,18 @@ def main():
         letters(subjects, tally)
     if not o.no_corpus:
         replay(subjects, tally)
-    for name, figure in tally.figures.items():
-        print("%s: %d" % (name, figure))
+
+
+def main():
+    o, tally, start = options(), Tally(), time.time()
+    published = None if o.no_rust else subject("the published Rust", rust.build, tally)
+    of_product = None if o.no_product else subject("the product", product.build, tally)
+    try:
+        compare(o, Subjects(published, of_product), tally)
+    except rust.Broken as e:
+        tally.broken(e)
     print("%.0f seconds" % (time.time() - start))
-    print("%d passed, %d failed" % (tally.passed, tally.failed))
+    tally.report()
     return 1 if tally.failed else 0
 
 

@@ -1,5 +1,4 @@
 """The product as a program: rust/examples/prints over the static library (see README.md, "Requests and answers of the product")."""
-import glob
 import os
 import shutil
 import struct
@@ -22,22 +21,17 @@ Called = namedtuple("Called", "number place counts areas fault")
 
 
 def library():
-    """(folder of the static library, None) or (None, why there is none)."""
-    folder = os.environ.get("TILUSORGU_LIB_DIR")
-    archive = os.path.join(folder or os.path.join(TOP, "target", "staticlib"), "liblister_c.a")
-    if not os.path.exists(archive):
+    """(folder of the static library, None), or (None, why there is none)."""
+    folder = os.environ.get("TILUSORGU_LIB_DIR") or os.path.join(TOP, "target", "staticlib")
+    if not os.path.exists(os.path.join(folder, "liblister_c.a")):
         return None, "the static library is not at hand (rust/build-library makes it, or TILUSORGU_LIB_DIR names its folder)"
-    with open(archive, "rb") as f:
-        if b"tilusorgu_print_declar" not in f.read():
-            return None, "%s has no prints" % os.path.relpath(archive)
-    made = os.path.getmtime(archive)
-    if not folder and any(os.path.getmtime(p) > made for p in glob.glob(os.path.join(TOP, "crates", "*", "src", "*.rt"))):
-        return None, "the static library is older than its sources (rust/build-library makes it anew)"
-    return os.path.abspath(os.path.dirname(archive)), None
+    if subprocess.run([os.path.join(TOP, "rust", "build-library"), "--check"]).returncode != 0:
+        return None, "the static library is not of the crates as they stand (rust/build-library makes it anew)"
+    return os.path.abspath(folder), None
 
 
 def build(out=os.path.join(rust.OUT, "product")):
-    """(program, None) or (None, why there is none)."""
+    """(program, None), or (None, what is not at hand)."""
     folder, why = library()
     if folder is None:
         return None, why
@@ -47,8 +41,12 @@ def build(out=os.path.join(rust.OUT, "product")):
     command = ["cargo", "build", "--release", "--offline", "--quiet", "--example", "prints", "--manifest-path", os.path.join(TOP, "rust", "Cargo.toml")]
     done = subprocess.run(command, capture_output=True, text=True, env=environment)
     if done.returncode != 0:
-        return None, "its program does not build: " + (done.stderr.strip().splitlines() or ["?"])[-1]
-    return os.path.join(os.path.abspath(out), "release", "examples", "prints"), None
+        raise rust.Broken("the product's program does not build: " + rust.last_lines(done.stderr))
+    program = os.path.join(os.path.abspath(out), "release", "examples", "prints")
+    _, fault = run(program, [], 60)
+    if fault:
+        raise rust.Broken("the product's program cannot be started: " + fault)
+    return program, None
 
 
 def run(program, requests, timeout):
@@ -60,16 +58,18 @@ def run(program, requests, timeout):
             done = subprocess.run([program, "--doc", f.name], stdout=subprocess.PIPE, stderr=subprocess.PIPE, timeout=timeout)
         except subprocess.TimeoutExpired as e:
             return e.stdout or b"", "no answer in %d seconds" % timeout
+        except OSError as e:
+            return b"", str(e)
     said = done.stderr.decode(errors="replace").strip().splitlines()
     return done.stdout, None if done.returncode == 0 else (said or ["the process ended with status %d" % done.returncode])[-1]
 
 
 def replies(program, requests, decode, failed, timeout):
-    """One reply for each request; after a request that has none, the next ones are asked in a process of their own."""
+    """One reply for each request; after a request that has none, the next ones are asked in a process of their own. What goes wrong after the last answer
+    is said of the last request."""
     out = []
     while len(out) < len(requests):
-        first = len(out)
-        data, fault = run(program, [r for r, _ in requests[first:]], timeout)
+        data, fault = run(program, [r for r, _ in requests[len(out):]], timeout)
         at = 0
         while at < len(data) and len(out) < len(requests):
             try:
@@ -79,6 +79,8 @@ def replies(program, requests, decode, failed, timeout):
             out.append(reply)
         if len(out) < len(requests):
             out.append(failed(fault or "no answer"))
+        elif fault or at != len(data):
+            out[-1] = failed(fault or "more than the answers")
     return out
 
 

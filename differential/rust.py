@@ -1,6 +1,5 @@
 """The published Rust as a program: requests to the harness and its answers (see README.md, "Requests and answers")."""
 import os
-import shutil
 import struct
 import subprocess
 import tempfile
@@ -8,7 +7,7 @@ from collections import namedtuple
 
 HERE = os.path.dirname(os.path.abspath(__file__))
 OUT = os.path.join(HERE, "..", "target", "differential")
-PUBLISHED = os.environ.get("TILUSORGU_PUBLISHED", os.path.join(HERE, "..", "..", "shared", "docs", "src"))
+NOT_AT_HAND = 3  # status of harness/build
 EXPRESSION, DECLARATION, LAYOUT = range(3)
 PRINTED, PANICKED, NO_ANSWER = range(3)
 
@@ -16,15 +15,22 @@ Request = namedtuple("Request", "mode root indent width area words")
 Reply = namedtuple("Reply", "status in_domain listing rows text")
 
 
+class Broken(Exception):
+    """What is at hand does not work: a program that does not build, does not start or ends early."""
+
+
+def last_lines(said):
+    """The end of what a program said, for a message."""
+    return "\n    ".join(said.strip().splitlines()[-12:]) or "no message"
+
+
 def build(out=OUT):
-    """(program, None) or (None, why there is none)."""
-    if not os.path.exists(os.path.join(PUBLISHED, "src", "pretty_printer.rs.txt")):
-        return None, "the published files are not at %s" % os.path.normpath(PUBLISHED)
-    if shutil.which("cargo") is None:
-        return None, "cargo is not at hand"
+    """(program, None), or (None, what is not at hand)."""
     done = subprocess.run([os.path.join(HERE, "harness", "build"), out], capture_output=True, text=True)
+    if done.returncode == NOT_AT_HAND:
+        return None, ", ".join(done.stderr.strip().splitlines())
     if done.returncode != 0:
-        return None, "the harness does not build: " + (done.stderr.strip().splitlines() or ["?"])[-1]
+        raise Broken("the harness does not build: " + last_lines(done.stderr))
     return done.stdout.strip().splitlines()[-1], None
 
 
@@ -57,12 +63,19 @@ def ask(program, requests, timeout=20000):
             f.write(encode(q))
         f.flush()
         environment = dict(os.environ, ORACLE_TIMEOUT_MS=str(timeout))
-        done = subprocess.run([program, "--doc", f.name], stdout=subprocess.PIPE, stderr=subprocess.DEVNULL, env=environment, check=True)
-    data = done.stdout
+        try:
+            done = subprocess.run([program, "--doc", f.name], stdout=subprocess.PIPE, stderr=subprocess.DEVNULL, env=environment)
+        except OSError as e:
+            raise Broken("the harness cannot be started: %s" % e)
     replies, at = [], 0
-    for _ in requests:
-        reply, at = decode(data, at)
-        replies.append(reply)
+    try:
+        while len(replies) < len(requests):
+            reply, at = decode(done.stdout, at)
+            replies.append(reply)
+    except struct.error:
+        pass
+    if done.returncode != 0 or len(replies) < len(requests) or at != len(done.stdout):
+        raise Broken("the harness ended with status %d, %d of %d requests answered" % (done.returncode, len(replies), len(requests)))
     return replies
 
 
