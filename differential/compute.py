@@ -17,6 +17,10 @@ def numbers(values):
     return 'numbers "%s"' % " ".join(map(str, values))
 
 
+def source(r):
+    return 'source "%s" "%s"' % (" ".join(map(str, r.area)), " ".join(map(str, r.words)))
+
+
 def quoted(text):
     """A listing as a quoted text where it is UTF-8."""
     escapes = {"\\": "\\\\", '"': '\\"', "\n": "\\n", "\t": "\\t", "\r": "\\r", "\0": "\\0"}
@@ -39,11 +43,11 @@ def term(n, r, p):
     flat = [w for row in p.rows for w in row]
     return """-- %s %d, indent %d, width %d
 pub print%d :
-    %s (%s) (%s) %d %d %d (lent %d %d %d)
-    ≡ done (Done %s) (%s) (%s) (%s)
-unfolding computing numbers lent done
+    %s (%s) %d %d %d (lent %d %d %d)
+    ≡ done (counts %s) (%s) (%s) (%s)
+unfolding computing numbers source lent counts done
 print%d = refl
-""" % (("expression", "declaration")[p.mode], p.root, p.indent, p.width, n, call, numbers(r.area), numbers(r.words), p.root,
+""" % (("expression", "declaration")[p.mode], p.root, p.indent, p.width, n, call, source(r), p.root,
        p.indent, p.width, len(p.rows), len(p.text), len(p.listing), " ".join(map(str, c)), numbers(flat), numbers(p.text),
        quoted(p.listing), n)
 
@@ -67,12 +71,12 @@ def short_term(n, r, p, lengths):
     case = CASES[a.number]
     return """-- %s %d, indent %d, width %d: refused %d at %d
 pub refusal%d :
-    %s (%s) (%s) %d %d %d (filled %d %d %d)
+    %s (%s) %d %d %d (filled %d %d %d)
     ≡ left (%s) (%s) (%s) (%s)
-unfolding computing numbers filled left
+unfolding computing numbers source filled left
 refusal%d = refl
 """ % (("expression", "declaration")[p.mode], p.root, p.indent, p.width, a.number, a.place, n, ("printExpr", "printDeclar")[p.mode],
-       numbers(r.area), numbers(r.words), p.root, p.indent, p.width, *lengths, case % a.place if "%" in case else case,
+       source(r), p.root, p.indent, p.width, *lengths, case % a.place if "%" in case else case,
        numbers(a.areas.rows), numbers(a.areas.text), numbers(a.areas.listing), n)
 
 
@@ -80,10 +84,9 @@ HEADER = """-- Recorded prints %d to %d, computed by the definitions. Written by
 use mathlib.Core.List.{List, [], _∷_}
 use mathlib.Core.Path.{_≡_, refl}
 use Rattle.utf8.specs.Quoted.{bytes}
-use Rattle.lister.specs.declared.Answer.the-variants.{Done}
 use Rattle.lister.specs.Prints.{printExpr, printDeclar}
 use Rattle.specimens.specs.Computing.{computing}
-use Rattle.computed.specs.Areas.{numbers, lent, done}
+use Rattle.computed.specs.Areas.{numbers, source, lent, counts, done}
 
 """
 
@@ -94,7 +97,8 @@ def write_refusals(picked):
     terms = [(r, p, lengths) for r, p in prints for lengths in short_lengths(p)]
     with open(os.path.join(OUT, "Refusals.antt"), "w") as f:
         f.write(HEADER.replace("Recorded prints %d to %d, computed by the definitions.", "Prints into short areas, as model.py has them, computed by the definitions.")
-                .replace("{Done}", "{Names, Document, RowArea, TextArea, Listing}").replace("{numbers, lent, done}", "{numbers, filled, left}"))
+                .replace("use Rattle.lister.specs.Prints", "use Rattle.lister.specs.declared.Answer.the-variants.{Names, Document, RowArea, TextArea, Listing}\nuse Rattle.lister.specs.Prints")
+                .replace("{numbers, source, lent, counts, done}", "{numbers, source, filled, left}"))
         f.write("\n".join(short_term(n, *t) for n, t in enumerate(terms)))
     return len(terms)
 

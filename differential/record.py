@@ -19,8 +19,8 @@ POOL, PRINT = 1, 2
 WORDS_LIMIT, BYTES_LIMIT, LISTING_LIMIT = 4000, 4000, 16384
 SMALL_POOL, SMALL_DOCUMENT = 480, 90  # words, rows
 PoolRecord = namedtuple("PoolRecord", "area words prints")
-# rows and text are None where the document is not recorded
-PrintRecord = namedtuple("PrintRecord", "mode root indent width counts listing rows text")
+# rows and text are None where the document is not recorded; last_text is the last row with text bytes, where a text area one byte short is full
+PrintRecord = namedtuple("PrintRecord", "mode root indent width counts listing rows text last_text")
 
 
 def padded(data):
@@ -41,7 +41,7 @@ def print_bytes(p):
     body = padded(p.listing)
     if p.rows is not None:
         body += packed([w for row in p.rows for w in row]) + padded(p.text)
-    return record(PRINT, [p.mode, p.root, p.indent, p.width] + list(p.counts) + [int(p.rows is not None)], body)
+    return record(PRINT, [p.mode, p.root, p.indent, p.width] + list(p.counts) + [int(p.rows is not None), p.last_text], body)
 
 
 def pool_bytes(r):
@@ -79,7 +79,7 @@ class Reader:
         if head[12]:
             rows = [self.words(7) for _ in range(head[6])]
             text = self.run(head[7])
-        return PrintRecord(*head[2:6], tuple(head[6:12]), listing, rows, text)
+        return PrintRecord(*head[2:6], tuple(head[6:12]), listing, rows, text, head[13])
 
     def pool_record(self):
         head = self.words(HEAD)
@@ -153,6 +153,10 @@ def random_pools(seed):
             yield both[1][:3]
 
 
+def last_text(rows):
+    return max((i for i, row in enumerate(rows) if row[0] == model.TEXT and row[2]), default=0)
+
+
 def asked(program, area, words, prints):
     """The prints that the Rust answers inside the domain, with the counts that its own document and listing have."""
     requests = [rust.Request(*p, area, words) for p in prints]
@@ -160,7 +164,7 @@ def asked(program, area, words, prints):
         if reply.status == rust.PRINTED and reply.in_domain and len(reply.listing) < LISTING_LIMIT:
             counts = rust.counts(reply, q.width)
             assert counts is not None, "listing and document of the Rust do not agree"
-            yield PrintRecord(q.mode, q.root, q.indent, q.width, counts, reply.listing, reply.rows, reply.text)
+            yield PrintRecord(q.mode, q.root, q.indent, q.width, counts, reply.listing, reply.rows, reply.text, last_text(reply.rows))
 
 
 def crosscheck(r):

@@ -2,26 +2,30 @@
 use Prim.Native.Nat.{ℕ, zero, suc, _+_, _-_, _<_, _≤_}
 use native.Mathlib.Omega.{arith}
 use native.Mathlib.Numerals.{add-one}
-use mathlib.Core.Bool.{Bool, true, false, _&&_, _||_, cond}
-use mathlib.Core.List.{List, [], _∷_}
+use mathlib.Core.Bool.{Bool, true, false, _&&_, cond}
+use mathlib.Core.List.{List}
 use mathlib.Core.Path.{_≡_, refl, sym, ap, ap₂, _∙_, subst}
 use lib.ListN.{length, set}
-use lib.Dec.{ltb, leb, eqb}
+use lib.Dec.{ltb, eqb}
 use borrow.Author.Tests.{eq-eqb, ne-eqb, lt-ltb, le-ltb}
+use Rattle.basics.proofs.Booleans.{and-true}
 use Rattle.utf8.specs.Letterlike.{sameBytes}
 use Rattle.pool.specs.declared.tables.Tables.{Tables}
 use Rattle.pool.specs.Tables.{Pool, S, N, L, K, E, stringWord, exprWord, stringAt}
 use Rattle.pool.specs.Areas.{over}
-use Rattle.pool.specs.Tree.{Expr, var, sort, const, app, pi, lam, letᵉ, proj, nat, str, depth, loose, lift, shape, levelShapes, sameShape, sameShapes, same}
+use Rattle.pool.specs.Tree.{Expr, var, sort, const, app, pi, lam, letᵉ, proj, nat, str, loose, lift, shape, levelShapes, sameShape, sameShapes, same}
 use Rattle.pool.specs.Unfold.{listAt, exprAt}
 use Rattle.pool.specs.Sound.{Sound}
-use Rattle.pool.proofs.TreeLaws.{label, labels-differ, differs-depth, differs-loose, lift-depth, lift-loose, raised, raised-low, raised-high, lift-closed, lift-none, same-self}
+use Rattle.pool.proofs.TreeLaws.{label, labels-differ, differs-depth, differs-loose, lift-depth, lift-loose, raised, raised-low, raised-high, lift-closed, lift-none}
+use Rattle.pool.proofs.TreeLaws.{same-self}
 use Rattle.pool.proofs.RowUnfolds.{string-fits}
-use Rattle.pool.proofs.ExprUnfolds.{kind-small, depth-word, loose-word, label-word, var-at, sort-at, const-at, app-at, pi-at, lam-at, let-at, proj-at, nat-at, str-at, sort-ok, const-ok, app-ok, pi-ok, lam-ok, let-ok, proj-ok, nat-ok, str-ok}
-use Rattle.compare.specs.Seen.{packed, isHeld, Holds}
-use Rattle.compare.specs.Asked.{Ready}
+use Rattle.pool.proofs.ExprUnfolds.{kind-small, depth-word, loose-word, label-word, var-at, sort-at, const-at, app-at, pi-at, lam-at, let-at, proj-at, nat-at, str-at}
+use Rattle.pool.proofs.ExprUnfolds.{sort-ok, const-ok, pi-ok, lam-ok, let-ok, proj-ok, nat-ok, str-ok}
+use Rattle.compare.specs.Seen.{packed, isHeld}
+use Rattle.pool.specs.Ready.{Ready}
 use Rattle.compare.specs.Parts.{firstPart, secondPart, bodyPart, sameAt}
-use Rattle.compare.specs.Equal.{Quick, Compared, treesSame, EqualTrees, namesSame, levelsSame, besides, stringOf, fieldsSame, partsSame, OneKind, TwoRows, TwoParts, Children}
+use Rattle.compare.specs.Equal.{Quick, Compared, treesSame, EqualTrees, namesSame, levelsSame, besides, stringOf, fieldsSame, partsSame, OneKind, TwoRows}
+use Rattle.compare.specs.Equal.{TwoParts, Children}
 use Rattle.compare.proofs.SeenLaws.{holds-hit, holds-put}
 use Rattle.compare.proofs.PartLaws.{ten, first-lower, second-lower, body-lower}
 use Rattle.compare.proofs.LevelLaws.{they-differ, they-agree, they-may}
@@ -101,14 +105,6 @@ module _ (bs ns ws : List ℕ) (t : Tables) (ready : Ready bs ns ws t) (a b : �
           ∙ same-self (exprAt p b))
 
 -- ---- by fields and parts
-
-and-true : (a : Bool) → a && true ≡ a
-and-true true = refl
-and-true false = refl
-
-and-false : (a : Bool) → a && false ≡ false
-and-false true = refl
-and-false false = refl
 
 -- what a node's shape compares, in the code's order
 order-pi : (s n x y : Bool) → (s && true) && (n && (x && (y && true))) ≡ (n && s) && (x && (true && y))
@@ -243,14 +239,15 @@ module _ (bs ns ws : List ℕ) (t : Tables) (a b kind : ℕ) (s : OneKind bs ns 
     sort-levels e =
         (s .ready, rw em (sort-ok pool (s .ready .sound) a (s .a-row) (at-a 1 e)), rw en (sort-ok pool (s .ready .sound) b (s .b-row) (at-b 1 e)))
 
+    name-there : (r : ℕ) → r < E ws → exprWord ws r 0 ≡ kind → 3 < kind → kind < 8 → exprWord ws r 1 < N ns
+    name-there r h e g l =
+        four-to-seven (λ (k : ℕ). exprWord ws r 0 ≡ k → exprWord ws r 1 < N ns)
+        (λ q. pi-ok pool (s .ready .sound) r h q .0) (λ q. lam-ok pool (s .ready .sound) r h q .0)
+        (λ q. let-ok pool (s .ready .sound) r h q .0) (λ q. proj-ok pool (s .ready .sound) r h q .0) kind g l e
+
     pub named-names : 3 < kind → kind < 8 → Ready bs ns ws t × (m < N ns) × (n < N ns)
     named-names g h =
-        four-to-seven (λ (k : ℕ). kind ≡ k → Ready bs ns ws t × (m < N ns) × (n < N ns))
-        (λ e. (s .ready, rw em (pi-ok pool (s .ready .sound) a (s .a-row) (at-a 4 e) .0), rw en (pi-ok pool (s .ready .sound) b (s .b-row) (at-b 4 e) .0)))
-        (λ e. (s .ready, rw em (lam-ok pool (s .ready .sound) a (s .a-row) (at-a 5 e) .0), rw en (lam-ok pool (s .ready .sound) b (s .b-row) (at-b 5 e) .0)))
-        (λ e. (s .ready, rw em (let-ok pool (s .ready .sound) a (s .a-row) (at-a 6 e) .0), rw en (let-ok pool (s .ready .sound) b (s .b-row) (at-b 6 e) .0)))
-        (λ e. (s .ready, rw em (proj-ok pool (s .ready .sound) a (s .a-row) (at-a 7 e) .0), rw en (proj-ok pool (s .ready .sound) b (s .b-row) (at-b 7 e) .0)))
-        kind g h refl
+        (s .ready, rw em (name-there a (s .a-row) (sym (s .a-kind)) g h), rw en (name-there b (s .b-row) (sym (s .b-kind)) g h))
 
     small : kind < 10
     small = rw (s .a-kind) (kind-small pool (s .ready .sound) a (s .a-row))
@@ -433,21 +430,18 @@ module _ (p : Pool) (d c a b kind : ℕ) (v : Bool) where
   unfolding fieldsSame
   say-app e q = q ∙ sym (ap (fieldsSame p d c a b) e)
 
-  module _ (m n : ℕ) (em : m ≡ ua 1) (en : n ≡ ub 1) where
-    pub say-sort : kind ≡ 1 → v ≡ levelsSame p m n → v ≡ fieldsSame p d c a b kind
+  pub say-sort : (m n : ℕ) → m ≡ ua 1 → n ≡ ub 1 → kind ≡ 1 → v ≡ levelsSame p m n → v ≡ fieldsSame p d c a b kind
+  unfolding fieldsSame
+  say-sort m n em en e q = q ∙ ap₂ (levelsSame p) em en ∙ sym (ap (fieldsSame p d c a b) e)
+
+  module _ (n₀ : kind ≡ 0 → ⊥) (n₁ : kind ≡ 1 → ⊥) (n₂ : kind ≡ 2 → ⊥) (n₃ : kind ≡ 3 → ⊥) where
+    pub say-named : kind < 8 → v ≡ namesSame p (ua 1) (ub 1) && eqb (ua (besides kind)) (ub (besides kind)) → v ≡ fieldsSame p d c a b kind
     unfolding fieldsSame
-    say-sort e q = q ∙ ap₂ (levelsSame p) em en ∙ sym (ap (fieldsSame p d c a b) e)
+    say-named h q = q ∙ sym (rw (ne-eqb kind 0 n₀, ne-eqb kind 1 n₁, ne-eqb kind 2 n₂, ne-eqb kind 3 n₃, lt-ltb kind 8 h))
 
-    module _ (n₀ : kind ≡ 0 → ⊥) (n₁ : kind ≡ 1 → ⊥) (n₂ : kind ≡ 2 → ⊥) (n₃ : kind ≡ 3 → ⊥) where
-      pub above-three : 3 < kind
-      above-three = omega arith
-
-      pub say-named : kind < 8 → v ≡ namesSame p (ua 1) (ub 1) && eqb (ua (besides kind)) (ub (besides kind)) → v ≡ fieldsSame p d c a b kind
-      unfolding fieldsSame
-      say-named h q = q ∙ sym (rw (ne-eqb kind 0 n₀, ne-eqb kind 1 n₁, ne-eqb kind 2 n₂, ne-eqb kind 3 n₃, lt-ltb kind 8 h))
-
-      pub say-literal : 8 ≤ kind → v ≡ sameBytes (stringOf (p .bytes) (p .names) m) (stringOf (p .bytes) (p .names) n) → v ≡ fieldsSame p d c a b kind
-      unfolding fieldsSame
-      say-literal h q =
-          q ∙ ap₂ (λ (i j : ℕ). sameBytes (stringOf (p .bytes) (p .names) i) (stringOf (p .bytes) (p .names) j)) em en
-          ∙ sym (rw (ne-eqb kind 0 n₀, ne-eqb kind 1 n₁, ne-eqb kind 2 n₂, ne-eqb kind 3 n₃, le-ltb kind 8 h))
+    pub say-literal : (m n : ℕ) → m ≡ ua 1 → n ≡ ub 1 → 8 ≤ kind
+        → v ≡ sameBytes (stringOf (p .bytes) (p .names) m) (stringOf (p .bytes) (p .names) n) → v ≡ fieldsSame p d c a b kind
+    unfolding fieldsSame
+    say-literal m n em en h q =
+        q ∙ ap₂ (λ (i j : ℕ). sameBytes (stringOf (p .bytes) (p .names) i) (stringOf (p .bytes) (p .names) j)) em en
+        ∙ sym (rw (ne-eqb kind 0 n₀, ne-eqb kind 1 n₁, ne-eqb kind 2 n₂, ne-eqb kind 3 n₃, le-ltb kind 8 h))

@@ -1,21 +1,22 @@
 -- Laws of the equality of levels and lists, in the words of the code.
 use Prim.Native.Nat.{ℕ, zero, suc, _+_, _-_, _<_, _≤_}
 use native.Mathlib.Omega.{arith}
-use native.Mathlib.Numerals.{add-one}
-use mathlib.Core.Bool.{Bool, true, false, _&&_, _||_, cond}
-use mathlib.Core.List.{List, [], _∷_}
-use mathlib.Core.Path.{_≡_, refl, sym, ap, ap₂, _∙_, subst}
+use mathlib.Core.Bool.{Bool, true, false, _&&_}
+use mathlib.Core.List.{List}
+use mathlib.Core.Path.{_≡_, refl, sym, ap, ap₂, _∙_}
 use lib.ListN.{length, set}
+use Rattle.basics.proofs.Booleans.{and-true, not-so}
 use Rattle.utf8.specs.Letterlike.{sameBytes}
 use Rattle.pool.specs.declared.tables.Tables.{Tables}
 use Rattle.pool.specs.Tables.{Pool, N, L, K, Q, levelWord, listWord, listEntry}
 use Rattle.pool.specs.Areas.{over}
-use Rattle.pool.specs.Tree.{Level, zeroˡ, succˡ, maxˡ, imaxˡ, paramˡ, nameShape, levelShape, levelShapes, sameShape, sameShapes}
+use Rattle.pool.specs.Tree.{Level, zeroˡ, nameShape, levelShape, levelShapes, sameShape, sameShapes}
 use Rattle.pool.specs.Unfold.{nameAt, levelAt, levelsFrom, listAt}
-use Rattle.pool.proofs.TreeLaws.{shape-same, shapes-same, not-so, labels-differ, label, shapes-equal, levels-equal}
-use Rattle.pool.proofs.RowUnfolds.{zero-at, succ-at, max-at, imax-at, param-at, succ-ok, succ-rest, max-ok, imax-ok, param-ok, level-kind-small, level-label-word, list-fits, entry-fits}
+use Rattle.pool.proofs.TreeLaws.{shape-same, shapes-same, labels-differ, levels-equal}
+use Rattle.pool.proofs.RowUnfolds.{zero-at, succ-at, max-at, imax-at, param-at, succ-ok, succ-rest, max-ok, imax-ok, param-ok, level-kind-small, level-label-word}
+use Rattle.pool.proofs.RowUnfolds.{list-fits, entry-fits}
 use Rattle.compare.specs.Seen.{packed, isHeld, Holds}
-use Rattle.compare.specs.Asked.{Ready}
+use Rattle.pool.specs.Ready.{Ready}
 use Rattle.compare.specs.Equal.{Quick, Compared, levelsSame, EqualLevels, Branches, TwoLevels, listsSame, TwoLists}
 use Rattle.compare.proofs.SeenLaws.{holds-hit, holds-put, holds-none}
 
@@ -30,10 +31,6 @@ module _ (asked : Bool) (Open : Type 0) where
 
   pub they-may : Open → Quick asked Open 2
   they-may o = record { different = λ q. absurd (omega arith); equal = λ q. absurd (omega arith); left = λ m n. o }
-
-and-true : (a : Bool) → a && true ≡ a
-and-true true = refl
-and-true false = refl
 
 one-to-three : (P : ℕ → Type 0) → P 1 → P 2 → P 3 → (k : ℕ) → (k ≡ 0 → ⊥) → k < 4 → P k
 one-to-three P p q r zero n h = absurd (n refl)

@@ -1,24 +1,25 @@
 -- Laws of the equality of strings and names.
-use Prim.Native.Nat.{ℕ, zero, suc, _+_, _-_, _*_, _^_, _<_, _≤_}
+use Prim.Native.Nat.{ℕ, zero, suc, _+_, _-_, _<_, _≤_}
 use native.Mathlib.Omega.{arith}
 use native.Mathlib.Numerals.{add-one}
-use mathlib.Core.Bool.{Bool, true, false, _&&_, _||_, cond}
-use mathlib.Core.List.{List, [], _∷_}
-use mathlib.Core.Path.{_≡_, refl, sym, ap, ap₂, _∙_, subst}
+use mathlib.Core.Bool.{Bool, true, false, _&&_}
+use mathlib.Core.List.{List}
+use mathlib.Core.Path.{_≡_, refl, sym, ap, ap₂, _∙_}
 use lib.ListN.{length, getD, take, drop}
 use lib.Seq.{drop-cons}
-use lib.Dec.{ltb, eqb}
+use lib.Dec.{eqb}
 use borrow.Author.Tests.{eq-eqb, ne-eqb}
+use Rattle.basics.proofs.Booleans.{and-true, not-so}
 use Rattle.utf8.specs.Letterlike.{sameBytes}
 use Rattle.pool.specs.declared.tables.Tables.{Tables}
-use Rattle.pool.specs.Tables.{Pool, S, N, nameWord, stringWord, stringAt}
+use Rattle.pool.specs.Tables.{N, nameWord, stringWord, stringAt}
 use Rattle.pool.specs.Areas.{over}
-use Rattle.pool.specs.Tree.{Name, anonymous, string, number, Shape, nameShape, sameShape}
+use Rattle.pool.specs.Tree.{Name, anonymous, number, Shape, nameShape, sameShape}
 use Rattle.pool.specs.Unfold.{nameAt}
-use Rattle.pool.proofs.Scan.{drop-all}
-use Rattle.pool.proofs.TreeLaws.{bytes-equal, bytes-same, shape-same, not-so, labels-differ, label}
+use Rattle.pool.proofs.Clips.{drop-all}
+use Rattle.pool.proofs.TreeLaws.{bytes-equal, bytes-same, shape-same, labels-differ}
 use Rattle.pool.proofs.RowUnfolds.{anonymous-at, string-at, number-at, string-ok, number-ok, name-kind-small, name-label-word, string-fits}
-use Rattle.compare.specs.Asked.{Ready}
+use Rattle.pool.specs.Ready.{Ready}
 use Rattle.compare.specs.Equal.{stringOf, numberOf, TwoNames, endsSame}
 
 -- ---- strings
@@ -55,10 +56,6 @@ parts-same bs ns a b x m y n v ex em ey en e =
     e ∙ ap₂ sameBytes (part-is bs x m (x + m) _ _ ex refl em) (part-is bs y n (y + n) _ _ ey refl en)
 
 -- ---- names
-
-and-true : (a : Bool) → a && true ≡ a
-and-true true = refl
-and-true false = refl
 
 -- a number is 1 or 2
 one-or-two : (P : ℕ → Type 0) → P 1 → P 2 → (k : ℕ) → (k ≡ 0 → ⊥) → k < 3 → P k

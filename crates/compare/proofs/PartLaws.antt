@@ -1,17 +1,17 @@
 -- Laws of the parts of a row: they are lower, and what holds of a row's tree holds of its parts.
-use Prim.Native.Nat.{ℕ, zero, suc, _+_, _-_, _<_, _≤_, max}
+use Prim.Native.Nat.{ℕ, zero, suc, _+_, _-_, _<_, _≤_}
 use native.Mathlib.Omega.{arith}
 use native.Mathlib.Numerals.{add-one}
-use mathlib.Core.Bool.{Bool, true, false, _&&_, _||_, cond}
-use mathlib.Core.List.{List, [], _∷_}
-use mathlib.Core.Path.{_≡_, refl, sym, ap, ap₂, _∙_, subst}
-use lib.Dec.{ltb, eqb}
+use mathlib.Core.Bool.{false, _||_}
+use mathlib.Core.Path.{_≡_, refl, sym, ap, _∙_}
 use borrow.Author.Tests.{ne-eqb}
+use Rattle.basics.proofs.Booleans.{or-false}
 use Rattle.pool.specs.Tables.{Pool, E, exprWord}
-use Rattle.pool.specs.Tree.{Expr, var, sort, const, app, pi, lam, letᵉ, proj, nat, str, occurs, loose}
+use Rattle.pool.specs.Tree.{occurs, loose}
 use Rattle.pool.specs.Unfold.{exprAt}
 use Rattle.pool.specs.Sound.{Sound}
-use Rattle.pool.proofs.ExprUnfolds.{kind-small, loose-word, var-at, sort-at, const-at, app-at, pi-at, lam-at, let-at, proj-at, nat-at, str-at, app-ok, pi-ok, lam-ok, let-ok, proj-ok}
+use Rattle.pool.proofs.ExprUnfolds.{kind-small, loose-word, var-at, sort-at, const-at, app-at, pi-at, lam-at, let-at, proj-at, nat-at, str-at, app-ok, pi-ok, lam-ok}
+use Rattle.pool.proofs.ExprUnfolds.{let-ok, proj-ok}
 use Rattle.compare.specs.Parts.{firstPart, secondPart, bodyPart, occursAt}
 
 -- the ten kinds, one by one
@@ -70,10 +70,6 @@ a-part p i (suc r) n = let e : suc r - 1 ≡ r = omega arith in ap (λ (k : ℕ)
 at-next : (p : Pool) (i r : ℕ) → occursAt p i (r + 1) ≡ occurs i (exprAt p r)
 unfolding occursAt
 at-next p i r = ap (occursAt p i) (add-one r)
-
-or-false : (a : Bool) → a || false ≡ a
-or-false true = refl
-or-false false = refl
 
 module _ (p : Pool) (sound : Sound p) (r : ℕ) (h : r < E (p .words)) (i : ℕ) where
   abbrev w₂ : ℕ → ℕ

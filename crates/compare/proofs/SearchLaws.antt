@@ -1,21 +1,22 @@
 -- Laws of the search for a variable, in the words of its code.
-use Prim.Native.Nat.{ℕ, zero, suc, _+_, _-_, _<_, _≤_}
+use Prim.Native.Nat.{ℕ, suc, _+_, _-_, _<_, _≤_}
 use native.Mathlib.Omega.{arith}
 use native.Mathlib.Numerals.{add-one}
-use mathlib.Core.Bool.{Bool, true, false, _&&_, _||_}
-use mathlib.Core.List.{List, [], _∷_}
-use mathlib.Core.Path.{_≡_, refl, sym, ap, ap₂, _∙_, subst}
+use mathlib.Core.Bool.{Bool, true, false, _||_}
+use mathlib.Core.List.{List}
+use mathlib.Core.Path.{_≡_, sym, ap, ap₂, _∙_, subst}
 use lib.ListN.{replicate, set}
 use Rattle.pool.specs.declared.tables.Tables.{Tables}
-use Rattle.pool.specs.Tables.{Pool, E, exprWord}
+use Rattle.pool.specs.Tables.{E, exprWord}
 use Rattle.pool.specs.Areas.{over}
 use Rattle.pool.specs.Tree.{occurs, loose}
 use Rattle.pool.specs.Unfold.{exprAt}
 use Rattle.pool.proofs.TreeLaws.{none-above, greatest-occurs}
 use Rattle.pool.proofs.ExprUnfolds.{loose-word}
-use Rattle.compare.specs.Seen.{packed, isHeld, Holds}
+use Rattle.compare.specs.Seen.{packed, isHeld}
 use Rattle.compare.specs.Parts.{firstPart, secondPart, bodyPart, occursAt}
-use Rattle.compare.specs.Asked.{Ready, Absent, Search, SearchPart, Searched}
+use Rattle.pool.specs.Ready.{Ready}
+use Rattle.compare.specs.Asked.{Absent, Search, SearchPart, Searched}
 use Rattle.compare.proofs.SeenLaws.{holds-none, holds-hit, holds-put}
 use Rattle.compare.proofs.PartLaws.{in-parts, first-lower, second-lower, body-lower, no-part, a-part}
 

@@ -1,15 +1,14 @@
 -- Laws of what was already answered: a key stands for one triple, and what holds of what an array holds goes on to hold.
 use Prim.Native.Nat.{ℕ, zero, suc, _+_, _*_, _<_, _≤_}
 use native.Mathlib.Omega.{arith}
-use mathlib.Core.Bool.{Bool, true, false, _&&_, cond}
-use mathlib.Core.List.{List, [], _∷_}
+use mathlib.Core.Bool.{Bool, true, false, cond}
+use mathlib.Core.List.{List}
 use mathlib.Core.Path.{_≡_, refl, sym, ap, _∙_, subst}
 use lib.ListN.{length, getD, set, replicate}
 use lib.Seq.{set-out, getD-set-same, getD-set-other}
 use lib.Dec.{ltb, eqb}
-use borrow.Author.Tests.{ltb-true, ltb-false, eqb-true, eqb-false, lt-ltb}
-use Rattle.pool.proofs.Scan.{and-left, and-right}
-use Rattle.pool.proofs.TreeLaws.{true-false}
+use borrow.Author.Tests.{ltb-true, ltb-false, eqb-true, eqb-false}
+use Rattle.basics.proofs.Booleans.{and-right, false-true}
 use Rattle.compare.specs.Seen.{packed, isHeld, Holds}
 
 -- a key and the numbers that it stands for
@@ -90,7 +89,7 @@ module _ (P : ℕ → ℕ → ℕ → Type 0) where
 
   -- what the slot holds is true
   pub holds-hit : (seen : List ℕ) (slot k a b c : ℕ) → Holds P seen → k ≡ packed a b c → isHeld seen slot k ≡ true → P a b c
-  holds-hit seen slot zero a b c h e y = absurd (true-false false y refl)
+  holds-hit seen slot zero a b c h e y = false-true y
   holds-hit seen slot (suc m) a b c h e y =
       h slot a b c m (eqb-true (getD seen slot 0) (suc m) (and-right (ltb 0 (suc m)) _ y)) (sym e)
 

@@ -2,16 +2,17 @@
 use Prim.Native.Nat.{ℕ, suc, _+_, _-_, _<_, _≤_}
 use native.Mathlib.Omega.{arith}
 use native.Mathlib.Numerals.{add-one}
-use mathlib.Core.Bool.{Bool, true, false, _||_}
+use mathlib.Core.Bool.{Bool, _||_}
 use mathlib.Core.List.{List}
-use mathlib.Core.Path.{_≡_, refl, sym, ap, ap₂, _∙_}
+use mathlib.Core.Path.{_≡_, sym, ap, ap₂, _∙_}
 use lib.ListN.{replicate}
 use Rattle.pool.specs.declared.tables.Tables.{Tables}
 use Rattle.pool.specs.Tables.{Pool, E, exprWord}
 use Rattle.pool.specs.Areas.{over}
 use Rattle.pool.specs.Tree.{occurs}
 use Rattle.pool.specs.Unfold.{exprAt}
-use Rattle.compare.specs.Asked.{Ready, Told}
+use Rattle.pool.specs.Ready.{Ready}
+use Rattle.compare.specs.Asked.{Told}
 use Rattle.compare.specs.Parts.{firstPart, secondPart, bodyPart, occursAt}
 use Rattle.compare.proofs.PartLaws.{no-part, a-part}
 use Rattle.compare.proofs.SearchLaws.{asked-first, parts, first-row, second-row, body-row, low-at-once, last-at-once}

@@ -5,18 +5,11 @@ use mathlib.Core.List.{List}
 use mathlib.Core.Path.{_≡_}
 use Rattle.pool.specs.declared.tables.Tables.{Tables}
 use Rattle.pool.specs.Tables.{Pool, E}
-use Rattle.pool.specs.Areas.{over, NamesOf, WordsOf}
-use Rattle.pool.specs.Sound.{Sound}
+use Rattle.pool.specs.Areas.{over}
+use Rattle.pool.specs.Ready.{Ready}
 use Rattle.pool.specs.Tree.{occurs}
 use Rattle.pool.specs.Unfold.{exprAt}
 use Rattle.compare.specs.Seen.{Holds}
-use Rattle.compare.specs.Parts.{occursAt}
-
--- a sound pool, and its tables
-pub record Ready (bs ns ws : List ℕ) (t : Tables) : Type 0 where
-  pub sound : Sound (over bs ns ws)
-  pub of-names : NamesOf ns t
-  pub of-words : WordsOf ws t
 
 -- (row, variable): the variable does not occur there
 abbrev pub Absent : Pool → ℕ → ℕ → ℕ → Type 0

@@ -1,18 +1,18 @@
 -- Equality of two rows, by the fields that are no parts and by the parts.
-use Prim.Native.Nat.{ℕ, zero, suc, _+_, _*_, _<_, _≤_, _^_}
-use mathlib.Core.Bool.{Bool, true, false, _&&_, _||_, cond}
+use Prim.Native.Nat.{ℕ, suc, _+_, _*_, _<_, _≤_}
+use mathlib.Core.Bool.{Bool, true, false, _&&_, cond}
 use mathlib.Core.List.{List}
 use mathlib.Core.Path.{_≡_}
 use lib.Dec.{ltb, eqb}
 use lib.ListN.{take, drop}
 use Rattle.utf8.specs.Letterlike.{sameBytes}
 use Rattle.pool.specs.declared.tables.Tables.{Tables}
-use Rattle.pool.specs.Tables.{Pool, N, L, K, Q, E, stringWord, nameWord, levelWord, exprWord, stringAt}
+use Rattle.pool.specs.Tables.{Pool, N, L, Q, E, stringWord, nameWord, levelWord, exprWord}
 use Rattle.pool.specs.Areas.{over}
+use Rattle.pool.specs.Ready.{Ready}
 use Rattle.pool.specs.Tree.{nameShape, levelShape, levelShapes, sameShape, sameShapes, lift, same}
 use Rattle.pool.specs.Unfold.{nameAt, levelAt, levelsFrom, listAt, exprAt}
 use Rattle.compare.specs.Seen.{Holds}
-use Rattle.compare.specs.Asked.{Ready}
 use Rattle.compare.specs.Parts.{firstPart, secondPart, bodyPart, sameAt}
 
 -- the bytes of string row r

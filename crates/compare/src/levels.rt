@@ -1,38 +1,41 @@
 // Equality of levels and of lists of levels.
 use super::names;
 use super::seen;
+use pool::fields;
+use pool::kinds::LEVEL_PARAM;
+use pool::kinds::LEVEL_ZERO;
 use pool::tables;
 use pool::tables::Tables;
 ghost use mathlib.Core.Path.{_≡_};
 ghost use Prim.Native.Nat.{_<_};
-ghost use Rattle.pool.specs.Areas.{over};
+ghost use Rattle.pool.specs.Areas.{lent};
 ghost use Rattle.pool.specs.Tables.{L, K};
 ghost use Rattle.pool.specs.Tree.{levelShapes, sameShapes};
 ghost use Rattle.pool.specs.Unfold.{listAt};
-ghost use Rattle.compare.specs.Asked.{Ready};
+ghost use Rattle.pool.specs.Ready.{Ready};
 ghost use Rattle.compare.specs.Equal.{Quick, Compared, levelsSame, EqualLevels, Branches, TwoLevels, listsSame, TwoLists};
 
 // A first look: 0 where they differ, 1 where they are equal, 2 where their parts say.
 fn glance(bytes: &[u8], names: &[u32], words: &[u32], t: Tables, a: usize, b: usize) -> usize
     requires { ⌜ (Ready (now bytes) (now names) (now words) t) × (a < L (now words)) × (b < L (now words)) ⌝ }
-    ensures { λ v. ⌜ Quick (levelsSame (over (now (bytes .entry)) (now (names .entry)) (now (words .entry))) a b) (Branches (over (now (bytes .entry)) (now (names .entry)) (now (words .entry))) a b) v ⌝ }
+    ensures { λ v. ⌜ Quick (levelsSame (lent bytes names words) a b) (Branches (lent bytes names words) a b) v ⌝ }
 {
     if a == b {
         return 1;
     }
-    let kind = tables::level_word(words, t, a, 0);
-    if kind != tables::level_word(words, t, b, 0) {
+    let kind = fields::level_kind(words, t, a);
+    if kind != fields::level_kind(words, t, b) {
         return 0;
     }
-    if kind == 0 {
+    if kind == LEVEL_ZERO {
         return 1;
     }
-    if kind < 4 {
+    if kind < LEVEL_PARAM {
         return 2;
     }
-    let m = tables::level_word(words, t, a, 1);
-    let n = tables::level_word(words, t, b, 1);
-    if names::same_name(bytes, names, words, t, m, n) {
+    let name_a = fields::level_first(words, t, a);
+    let name_b = fields::level_first(words, t, b);
+    if names::same_name(bytes, names, words, t, name_a, name_b) {
         return 1;
     }
     0
@@ -49,37 +52,38 @@ fn level(
     b: usize,
 ) -> bool
     requires { ⌜ TwoLevels (now bytes) (now names) (now words) t (now known) a b ⌝ }
-    ensures { λ v. ⌜ Compared (EqualLevels (over (now (bytes .entry)) (now (names .entry)) (now (words .entry)))) (levelsSame (over (now (bytes .entry)) (now (names .entry)) (now (words .entry))) a b) (now (known .exit)) v ⌝ }
+    ensures { λ v. ⌜ Compared (EqualLevels (lent bytes names words)) (levelsSame (lent bytes names words) a b)
+        (now (known .exit)) v ⌝ }
 {
-    let q = glance(bytes, names, words, t, a, b);
-    if q == 0 {
+    let quick = glance(bytes, names, words, t, a, b);
+    if quick == 0 {
         return false;
     }
-    if q == 1 {
+    if quick == 1 {
         return true;
     }
-    let k = seen::key(a, b, 0);
-    let at = seen::slot(k, known.len());
-    if seen::held(known, at, k) {
+    let key = seen::key(a, b, 0);
+    let at = seen::slot(key, known.len());
+    if seen::held(known, at, key) {
         return true;
     }
-    let x = tables::level_word(words, t, a, 1);
-    let y = tables::level_word(words, t, b, 1);
-    if !level(bytes, names, words, t, known, x, y) {
+    let first_a = fields::level_first(words, t, a);
+    let first_b = fields::level_first(words, t, b);
+    if !level(bytes, names, words, t, known, first_a, first_b) {
         return false;
     }
-    let u = tables::level_word(words, t, a, 2);
-    let w = tables::level_word(words, t, b, 2);
-    if !level(bytes, names, words, t, known, u, w) {
+    let second_a = fields::level_second(words, t, a);
+    let second_b = fields::level_second(words, t, b);
+    if !level(bytes, names, words, t, known, second_a, second_b) {
         return false;
     }
-    seen::keep(known, at, k);
+    seen::keep(known, at, key);
     true
 }
 
 pub fn same_level(bytes: &[u8], names: &[u32], words: &[u32], t: Tables, a: usize, b: usize) -> bool
     requires { ⌜ (Ready (now bytes) (now names) (now words) t) × (a < L (now words)) × (b < L (now words)) ⌝ }
-    ensures { λ v. ⌜ v ≡ levelsSame (over (now (bytes .entry)) (now (names .entry)) (now (words .entry))) a b ⌝ }
+    ensures { λ v. ⌜ v ≡ levelsSame (lent bytes names words) a b ⌝ }
 {
     let mut known = [0usize; 1024];
     level(bytes, names, words, t, &mut known, a, b)
@@ -97,13 +101,13 @@ fn levels(
     n: usize,
 ) -> bool
     requires { ⌜ TwoLists (now bytes) (now names) (now words) t (now known) x y n ⌝ }
-    ensures { λ v. ⌜ v ≡ listsSame (over (now (bytes .entry)) (now (names .entry)) (now (words .entry))) x y n ⌝ }
+    ensures { λ v. ⌜ v ≡ listsSame (lent bytes names words) x y n ⌝ }
 {
     let mut i = 0;
     while i < n {
-        let l = tables::list_entry(words, t, x + i);
-        let m = tables::list_entry(words, t, y + i);
-        if !level(bytes, names, words, t, known, l, m) {
+        let level_x = tables::list_entry(words, t, x + i);
+        let level_y = tables::list_entry(words, t, y + i);
+        if !level(bytes, names, words, t, known, level_x, level_y) {
             return false;
         }
         i += 1;
@@ -113,17 +117,18 @@ fn levels(
 
 pub fn same_list(bytes: &[u8], names: &[u32], words: &[u32], t: Tables, a: usize, b: usize) -> bool
     requires { ⌜ (Ready (now bytes) (now names) (now words) t) × (a < K (now words)) × (b < K (now words)) ⌝ }
-    ensures { λ v. ⌜ v ≡ sameShapes (levelShapes (listAt (over (now (bytes .entry)) (now (names .entry)) (now (words .entry))) a)) (levelShapes (listAt (over (now (bytes .entry)) (now (names .entry)) (now (words .entry))) b)) ⌝ }
+    ensures { λ v. ⌜ v ≡ sameShapes (levelShapes (listAt (lent bytes names words) a))
+        (levelShapes (listAt (lent bytes names words) b)) ⌝ }
 {
     if a == b {
         return true;
     }
-    let n = tables::list_word(words, t, a, 1);
-    if n != tables::list_word(words, t, b, 1) {
+    let size = fields::list_length(words, t, a);
+    if size != fields::list_length(words, t, b) {
         return false;
     }
-    let x = tables::list_word(words, t, a, 0);
-    let y = tables::list_word(words, t, b, 0);
+    let from_a = fields::list_offset(words, t, a);
+    let from_b = fields::list_offset(words, t, b);
     let mut known = [0usize; 1024];
-    levels(bytes, names, words, t, &mut known, x, y, n)
+    levels(bytes, names, words, t, &mut known, from_a, from_b, size)
 }

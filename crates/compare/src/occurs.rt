@@ -1,16 +1,17 @@
 // Whether a loose variable occurs in the tree of a row.
 use super::parts;
 use super::seen;
-use pool::tables;
+use pool::fields;
 use pool::tables::Tables;
 ghost use mathlib.Core.Path.{_≡_};
 ghost use Prim.Native.Nat.{_+_, _<_, _≤_};
-ghost use Rattle.pool.specs.Areas.{over};
+ghost use Rattle.pool.specs.Areas.{lent};
 ghost use Rattle.pool.specs.Tables.{E};
 ghost use Rattle.pool.specs.Tree.{occurs};
 ghost use Rattle.pool.specs.Unfold.{exprAt};
 ghost use Rattle.compare.specs.Parts.{occursAt};
-ghost use Rattle.compare.specs.Asked.{Told, Ready, Search, SearchPart, Searched};
+ghost use Rattle.pool.specs.Ready.{Ready};
+ghost use Rattle.compare.specs.Asked.{Told, Search, SearchPart, Searched};
 
 // A row is searched once for each variable, unless what was answered of it was overwritten.
 fn search(
@@ -23,21 +24,21 @@ fn search(
     i: usize,
 ) -> bool
     requires { ⌜ Search (now bytes) (now names) (now words) t (now found) r ⌝ }
-    ensures { λ v. ⌜ Searched (over (now (bytes .entry)) (now (names .entry)) (now (words .entry))) (occurs i (exprAt (over (now (bytes .entry)) (now (names .entry)) (now (words .entry))) r)) (now (found .exit)) v ⌝ }
+    ensures { λ v. ⌜ Searched (lent bytes names words) (occurs i (exprAt (lent bytes names words) r)) (now (found .exit)) v ⌝ }
 {
-    let loose = tables::expr_word(words, t, r, 7);
+    let loose = fields::expr_loose(words, t, r);
     if loose <= i {
         return false;
     }
     if loose == i + 1 {
         return true;
     }
-    let k = seen::key(r, i, 0);
-    let at = seen::row_slot(k, found.len());
-    if seen::held(found, at, k) {
+    let key = seen::key(r, i, 0);
+    let at = seen::row_slot(key, found.len());
+    if seen::held(found, at, key) {
         return false;
     }
-    let kind = tables::expr_word(words, t, r, 0);
+    let kind = fields::expr_kind(words, t, r);
     let first = parts::first_part(words, t, r, kind);
     if look(bytes, names, words, t, found, first, i) {
         return true;
@@ -50,7 +51,7 @@ fn search(
     if look(bytes, names, words, t, found, body, i + 1) {
         return true;
     }
-    seen::keep(found, at, k);
+    seen::keep(found, at, key);
     false
 }
 
@@ -65,7 +66,7 @@ fn look(
     i: usize,
 ) -> bool
     requires { ⌜ SearchPart (now bytes) (now names) (now words) t (now found) part ⌝ }
-    ensures { λ v. ⌜ Searched (over (now (bytes .entry)) (now (names .entry)) (now (words .entry))) (occursAt (over (now (bytes .entry)) (now (names .entry)) (now (words .entry))) i part) (now (found .exit)) v ⌝ }
+    ensures { λ v. ⌜ Searched (lent bytes names words) (occursAt (lent bytes names words) i part) (now (found .exit)) v ⌝ }
 {
     if part == 0 {
         return false;
@@ -90,20 +91,20 @@ fn try_row(
     steps: usize,
 ) -> Tried
     requires { ⌜ (Ready (now bytes) (now names) (now words) t) × (r < E (now words)) ⌝ }
-    ensures { λ v. ⌜ Told (occurs i (exprAt (over (now (bytes .entry)) (now (names .entry)) (now (words .entry))) r)) (v .answer) ⌝ }
+    ensures { λ v. ⌜ Told (occurs i (exprAt (lent bytes names words) r)) (v .answer) ⌝ }
 {
     if steps == 0 {
         return Tried { answer: 2, left: 0 };
     }
     let left = steps - 1;
-    let loose = tables::expr_word(words, t, r, 7);
+    let loose = fields::expr_loose(words, t, r);
     if loose <= i {
         return Tried { answer: 0, left };
     }
     if loose == i + 1 {
         return Tried { answer: 1, left };
     }
-    let kind = tables::expr_word(words, t, r, 0);
+    let kind = fields::expr_kind(words, t, r);
     let first = parts::first_part(words, t, r, kind);
     let a = try_part(bytes, names, words, t, first, i, left);
     if a.answer != 0 {
@@ -128,7 +129,7 @@ fn try_part(
     steps: usize,
 ) -> Tried
     requires { ⌜ (Ready (now bytes) (now names) (now words) t) × (part ≤ E (now words)) ⌝ }
-    ensures { λ v. ⌜ Told (occursAt (over (now (bytes .entry)) (now (names .entry)) (now (words .entry))) i part) (v .answer) ⌝ }
+    ensures { λ v. ⌜ Told (occursAt (lent bytes names words) i part) (v .answer) ⌝ }
 {
     if part == 0 {
         return Tried {
@@ -142,7 +143,7 @@ fn try_part(
 // The long search: its table is large, since a pool of few rows can ask of many (row, variable).
 fn search_all(bytes: &[u8], names: &[u32], words: &[u32], t: Tables, r: usize, i: usize) -> bool
     requires { ⌜ (Ready (now bytes) (now names) (now words) t) × (r < E (now words)) ⌝ }
-    ensures { λ v. ⌜ v ≡ occurs i (exprAt (over (now (bytes .entry)) (now (names .entry)) (now (words .entry))) r) ⌝ }
+    ensures { λ v. ⌜ v ≡ occurs i (exprAt (lent bytes names words) r) ⌝ }
 {
     let mut found = [0usize; 65536];
     search(bytes, names, words, t, &mut found, r, i)
@@ -159,7 +160,7 @@ fn settle(
     steps: usize,
 ) -> bool
     requires { ⌜ (Ready (now bytes) (now names) (now words) t) × (r < E (now words)) × (0 < steps) ⌝ }
-    ensures { λ v. ⌜ v ≡ occurs i (exprAt (over (now (bytes .entry)) (now (names .entry)) (now (words .entry))) r) ⌝ }
+    ensures { λ v. ⌜ v ≡ occurs i (exprAt (lent bytes names words) r) ⌝ }
 {
     let tried = try_row(bytes, names, words, t, r, i, steps);
     if tried.answer == 0 {
@@ -176,7 +177,7 @@ fn settle(
 
 pub fn has_var(bytes: &[u8], names: &[u32], words: &[u32], t: Tables, r: usize, i: usize) -> bool
     requires { ⌜ (Ready (now bytes) (now names) (now words) t) × (r < E (now words)) ⌝ }
-    ensures { λ v. ⌜ v ≡ occurs i (exprAt (over (now (bytes .entry)) (now (names .entry)) (now (words .entry))) r) ⌝ }
+    ensures { λ v. ⌜ v ≡ occurs i (exprAt (lent bytes names words) r) ⌝ }
 {
     settle(bytes, names, words, t, r, i, 256)
 }

@@ -3,17 +3,24 @@ use super::levels;
 use super::names;
 use super::parts;
 use super::seen;
+use pool::fields;
+use pool::kinds::EXPR_APP;
+use pool::kinds::EXPR_CONST;
+use pool::kinds::EXPR_LET;
+use pool::kinds::EXPR_NAT;
+use pool::kinds::EXPR_SORT;
+use pool::kinds::EXPR_VAR;
 use pool::tables;
 use pool::tables::Tables;
 ghost use mathlib.Core.Path.{_≡_};
 ghost use mathlib.Core.Bool.{_&&_, cond};
 ghost use Prim.Native.Nat.{_+_, _<_};
 ghost use lib.Dec.{ltb, eqb};
-ghost use Rattle.pool.specs.Areas.{over, WordsOf};
+ghost use Rattle.pool.specs.Areas.{WordsOf, lent};
 ghost use Rattle.pool.specs.Tables.{E, exprWord};
 ghost use Rattle.pool.specs.Tree.{levelShapes, sameShapes, same, lift};
 ghost use Rattle.pool.specs.Unfold.{listAt, exprAt};
-ghost use Rattle.compare.specs.Asked.{Ready};
+ghost use Rattle.pool.specs.Ready.{Ready};
 ghost use Rattle.compare.specs.Parts.{sameAt};
 ghost use Rattle.compare.specs.Equal.{Quick, Compared, treesSame, EqualTrees, namesSame, besides, fieldsSame, partsSame, OneKind, TwoRows, TwoParts, Children};
 
@@ -29,18 +36,19 @@ fn glance(
     c: usize,
 ) -> usize
     requires { ⌜ (Ready (now bytes) (now names) (now words) t) × (a < E (now words)) × (b < E (now words)) ⌝ }
-    ensures { λ v. ⌜ Quick (treesSame (over (now (bytes .entry)) (now (names .entry)) (now (words .entry))) d c a b) (exprWord (now (words .entry)) a 0 ≡ exprWord (now (words .entry)) b 0) v ⌝ }
+    ensures { λ v. ⌜ Quick (treesSame (lent bytes names words) d c a b)
+        (exprWord (now (words .entry)) a 0 ≡ exprWord (now (words .entry)) b 0) v ⌝ }
 {
-    if tables::expr_word(words, t, a, 6) != tables::expr_word(words, t, b, 6) {
+    if fields::expr_depth(words, t, a) != fields::expr_depth(words, t, b) {
         return 0;
     }
-    if tables::expr_word(words, t, a, 0) != tables::expr_word(words, t, b, 0) {
+    if fields::expr_kind(words, t, a) != fields::expr_kind(words, t, b) {
         return 0;
     }
-    let x = tables::expr_word(words, t, a, 7);
-    let y = tables::expr_word(words, t, b, 7);
-    if x <= c {
-        if x != y {
+    let loose_a = fields::expr_loose(words, t, a);
+    let loose_b = fields::expr_loose(words, t, b);
+    if loose_a <= c {
+        if loose_a != loose_b {
             return 0;
         }
         if a == b {
@@ -48,10 +56,10 @@ fn glance(
         }
         return 2;
     }
-    if y < x {
+    if loose_b < loose_a {
         return 0;
     }
-    if y - x != d {
+    if loose_b - loose_a != d {
         return 0;
     }
     if d == 0 {
@@ -64,43 +72,50 @@ fn glance(
 
 fn same_var(words: &[u32], t: Tables, d: usize, a: usize, b: usize, c: usize) -> bool
     requires { ⌜ WordsOf (now words) t ⌝ }
-    ensures { λ v. ⌜ v ≡ eqb (cond (ltb (exprWord (now (words .entry)) a 1) c) (exprWord (now (words .entry)) a 1) (exprWord (now (words .entry)) a 1 + d)) (exprWord (now (words .entry)) b 1) ⌝ }
+    ensures { λ v. ⌜ v ≡ eqb (cond (ltb (exprWord (now (words .entry)) a 1) c) (exprWord (now (words .entry)) a 1)
+        (exprWord (now (words .entry)) a 1 + d)) (exprWord (now (words .entry)) b 1) ⌝ }
 {
-    let i = tables::expr_word(words, t, a, 1);
-    let j = tables::expr_word(words, t, b, 1);
-    if i < c {
-        return i == j;
+    let index_a = fields::var_index(words, t, a);
+    let index_b = fields::var_index(words, t, b);
+    if index_a < c {
+        return index_a == index_b;
     }
-    if j < i {
+    if index_b < index_a {
         return false;
     }
-    j - i == d
+    index_b - index_a == d
 }
 
 fn same_const(bytes: &[u8], names: &[u32], words: &[u32], t: Tables, a: usize, b: usize) -> bool
     requires { ⌜ OneKind (now bytes) (now names) (now words) t a b 2 ⌝ }
-    ensures { λ v. ⌜ v ≡ namesSame (over (now (bytes .entry)) (now (names .entry)) (now (words .entry))) (exprWord (now (words .entry)) a 1) (exprWord (now (words .entry)) b 1) && sameShapes (levelShapes (listAt (over (now (bytes .entry)) (now (names .entry)) (now (words .entry))) (exprWord (now (words .entry)) a 2))) (levelShapes (listAt (over (now (bytes .entry)) (now (names .entry)) (now (words .entry))) (exprWord (now (words .entry)) b 2))) ⌝ }
+    ensures { λ v. ⌜ v ≡ namesSame (lent bytes names words) (exprWord (now (words .entry)) a 1) (exprWord (now (words .entry)) b 1)
+        && sameShapes (levelShapes (listAt (lent bytes names words) (exprWord (now (words .entry)) a 2)))
+        (levelShapes (listAt (lent bytes names words) (exprWord (now (words .entry)) b 2))) ⌝ }
 {
-    let m = tables::expr_word(words, t, a, 1);
-    let n = tables::expr_word(words, t, b, 1);
-    if !names::same_name(bytes, names, words, t, m, n) {
+    let name_a = fields::const_name(words, t, a);
+    let name_b = fields::const_name(words, t, b);
+    if !names::same_name(bytes, names, words, t, name_a, name_b) {
         return false;
     }
-    let x = tables::expr_word(words, t, a, 2);
-    let y = tables::expr_word(words, t, b, 2);
-    levels::same_list(bytes, names, words, t, x, y)
+    let list_a = fields::const_list(words, t, a);
+    let list_b = fields::const_list(words, t, b);
+    levels::same_list(bytes, names, words, t, list_a, list_b)
 }
 
+// Where a row of these kinds has the number beside its name: a let's nondep, a style or an index.
 fn beside(kind: usize) -> usize
     ensures { λ v. ⌜ (v ≡ besides kind) × (v < 8) ⌝ }
 {
-    if kind == 6 {
+    if kind == EXPR_LET {
         return 5;
     }
     2
 }
 
-// A pi, a lambda, a let or a projection: the name, and the word beside it.
+// The field of a name in a pi, a lambda, a let and a projection.
+const NAME: usize = 1;
+
+// Two rows of these kinds: the name, and the word beside it.
 fn same_named(
     bytes: &[u8],
     names: &[u32],
@@ -111,15 +126,16 @@ fn same_named(
     kind: usize,
 ) -> bool
     requires { ⌜ (OneKind (now bytes) (now names) (now words) t a b kind) × (3 < kind) × (kind < 8) ⌝ }
-    ensures { λ v. ⌜ v ≡ namesSame (over (now (bytes .entry)) (now (names .entry)) (now (words .entry))) (exprWord (now (words .entry)) a 1) (exprWord (now (words .entry)) b 1) && eqb (exprWord (now (words .entry)) a (besides kind)) (exprWord (now (words .entry)) b (besides kind)) ⌝ }
+    ensures { λ v. ⌜ v ≡ namesSame (lent bytes names words) (exprWord (now (words .entry)) a 1) (exprWord (now (words .entry)) b 1)
+        && eqb (exprWord (now (words .entry)) a (besides kind)) (exprWord (now (words .entry)) b (besides kind)) ⌝ }
 {
-    let m = tables::expr_word(words, t, a, 1);
-    let n = tables::expr_word(words, t, b, 1);
-    if !names::same_name(bytes, names, words, t, m, n) {
+    let name_a = tables::expr_word(words, t, a, NAME);
+    let name_b = tables::expr_word(words, t, b, NAME);
+    if !names::same_name(bytes, names, words, t, name_a, name_b) {
         return false;
     }
-    let k = beside(kind);
-    tables::expr_word(words, t, a, k) == tables::expr_word(words, t, b, k)
+    let number = beside(kind);
+    tables::expr_word(words, t, a, number) == tables::expr_word(words, t, b, number)
 }
 
 fn fields(
@@ -134,26 +150,28 @@ fn fields(
     kind: usize,
 ) -> bool
     requires { ⌜ OneKind (now bytes) (now names) (now words) t a b kind ⌝ }
-    ensures { λ v. ⌜ v ≡ fieldsSame (over (now (bytes .entry)) (now (names .entry)) (now (words .entry))) d c a b kind ⌝ }
+    ensures { λ v. ⌜ v ≡ fieldsSame (lent bytes names words) d c a b kind ⌝ }
 {
-    if kind == 0 {
+    if kind == EXPR_VAR {
         return same_var(words, t, d, a, b, c);
     }
-    if kind == 2 {
+    if kind == EXPR_CONST {
         return same_const(bytes, names, words, t, a, b);
     }
-    if kind == 3 {
+    if kind == EXPR_APP {
         return true;
     }
-    let m = tables::expr_word(words, t, a, 1);
-    let n = tables::expr_word(words, t, b, 1);
-    if kind == 1 {
-        return levels::same_level(bytes, names, words, t, m, n);
+    if kind == EXPR_SORT {
+        let level_a = fields::sort_level(words, t, a);
+        let level_b = fields::sort_level(words, t, b);
+        return levels::same_level(bytes, names, words, t, level_a, level_b);
     }
-    if kind < 8 {
+    if kind < EXPR_NAT {
         return same_named(bytes, names, words, t, a, b, kind);
     }
-    names::same_string(bytes, names, m, n)
+    let string_a = fields::literal_string(words, t, a);
+    let string_b = fields::literal_string(words, t, b);
+    names::same_string(bytes, names, string_a, string_b)
 }
 
 // Two rows are compared once for each c, unless what was answered of them was overwritten.
@@ -169,28 +187,29 @@ fn tree(
     c: usize,
 ) -> bool
     requires { ⌜ TwoRows (now bytes) (now names) (now words) t (now known) d a b c ⌝ }
-    ensures { λ v. ⌜ Compared (EqualTrees (over (now (bytes .entry)) (now (names .entry)) (now (words .entry))) d) (treesSame (over (now (bytes .entry)) (now (names .entry)) (now (words .entry))) d c a b) (now (known .exit)) v ⌝ }
+    ensures { λ v. ⌜ Compared (EqualTrees (lent bytes names words) d) (treesSame (lent bytes names words) d c a b)
+        (now (known .exit)) v ⌝ }
 {
-    let q = glance(bytes, names, words, t, d, a, b, c);
-    if q == 0 {
+    let quick = glance(bytes, names, words, t, d, a, b, c);
+    if quick == 0 {
         return false;
     }
-    if q == 1 {
+    if quick == 1 {
         return true;
     }
-    let k = seen::key(a, b, c);
-    let at = seen::slot(k, known.len());
-    if seen::held(known, at, k) {
+    let key = seen::key(a, b, c);
+    let at = seen::slot(key, known.len());
+    if seen::held(known, at, key) {
         return true;
     }
-    let kind = tables::expr_word(words, t, a, 0);
+    let kind = fields::expr_kind(words, t, a);
     if !fields(bytes, names, words, t, d, a, b, c, kind) {
         return false;
     }
     if !children(bytes, names, words, t, known, d, a, b, c, kind) {
         return false;
     }
-    seen::keep(known, at, k);
+    seen::keep(known, at, key);
     true
 }
 
@@ -207,21 +226,22 @@ fn children(
     kind: usize,
 ) -> bool
     requires { ⌜ Children (now bytes) (now names) (now words) t (now known) d a b c kind ⌝ }
-    ensures { λ v. ⌜ Compared (EqualTrees (over (now (bytes .entry)) (now (names .entry)) (now (words .entry))) d) (partsSame (over (now (bytes .entry)) (now (names .entry)) (now (words .entry))) d c a b kind) (now (known .exit)) v ⌝ }
+    ensures { λ v. ⌜ Compared (EqualTrees (lent bytes names words) d) (partsSame (lent bytes names words) d c a b kind)
+        (now (known .exit)) v ⌝ }
 {
-    let x = parts::first_part(words, t, a, kind);
-    let y = parts::first_part(words, t, b, kind);
-    if !pair(bytes, names, words, t, known, d, x, y, c) {
+    let first_a = parts::first_part(words, t, a, kind);
+    let first_b = parts::first_part(words, t, b, kind);
+    if !pair(bytes, names, words, t, known, d, first_a, first_b, c) {
         return false;
     }
-    let u = parts::second_part(words, t, a, kind);
-    let w = parts::second_part(words, t, b, kind);
-    if !pair(bytes, names, words, t, known, d, u, w, c) {
+    let second_a = parts::second_part(words, t, a, kind);
+    let second_b = parts::second_part(words, t, b, kind);
+    if !pair(bytes, names, words, t, known, d, second_a, second_b, c) {
         return false;
     }
-    let f = parts::body_part(words, t, a, kind);
-    let g = parts::body_part(words, t, b, kind);
-    pair(bytes, names, words, t, known, d, f, g, c + 1)
+    let body_a = parts::body_part(words, t, a, kind);
+    let body_b = parts::body_part(words, t, b, kind);
+    pair(bytes, names, words, t, known, d, body_a, body_b, c + 1)
 }
 
 fn pair(
@@ -236,7 +256,8 @@ fn pair(
     c: usize,
 ) -> bool
     requires { ⌜ TwoParts (now bytes) (now names) (now words) t (now known) d x y c ⌝ }
-    ensures { λ v. ⌜ Compared (EqualTrees (over (now (bytes .entry)) (now (names .entry)) (now (words .entry))) d) (sameAt (over (now (bytes .entry)) (now (names .entry)) (now (words .entry))) d c x y) (now (known .exit)) v ⌝ }
+    ensures { λ v. ⌜ Compared (EqualTrees (lent bytes names words) d) (sameAt (lent bytes names words) d c x y)
+        (now (known .exit)) v ⌝ }
 {
     if x == 0 {
         return y == 0;
@@ -257,13 +278,14 @@ fn compare_all(
     d: usize,
 ) -> bool
     requires { ⌜ (Ready (now bytes) (now names) (now words) t) × (a < E (now words)) × (b < E (now words)) ⌝ }
-    ensures { λ v. ⌜ v ≡ same (lift d 0 (exprAt (over (now (bytes .entry)) (now (names .entry)) (now (words .entry))) a)) (exprAt (over (now (bytes .entry)) (now (names .entry)) (now (words .entry))) b) ⌝ }
+    ensures { λ v. ⌜ v ≡ same (lift d 0 (exprAt (lent bytes names words) a)) (exprAt (lent bytes names words) b) ⌝ }
 {
     let mut known = [0usize; 2048];
     tree(bytes, names, words, t, &mut known, d, a, b, 0)
 }
 
-// Whether the tree of row a, its loose variables lifted by d, is that of row b, all fields. A first look comes before there is a table to clear.
+// Whether the tree of row a, its loose variables lifted by d, is that of row b, all fields. A first look comes before there is a table
+// to clear.
 pub fn same_lifted(
     bytes: &[u8],
     names: &[u32],
@@ -274,7 +296,7 @@ pub fn same_lifted(
     d: usize,
 ) -> bool
     requires { ⌜ (Ready (now bytes) (now names) (now words) t) × (a < E (now words)) × (b < E (now words)) ⌝ }
-    ensures { λ v. ⌜ v ≡ same (lift d 0 (exprAt (over (now (bytes .entry)) (now (names .entry)) (now (words .entry))) a)) (exprAt (over (now (bytes .entry)) (now (names .entry)) (now (words .entry))) b) ⌝ }
+    ensures { λ v. ⌜ v ≡ same (lift d 0 (exprAt (lent bytes names words) a)) (exprAt (lent bytes names words) b) ⌝ }
 {
     let quick = glance(bytes, names, words, t, d, a, b, 0);
     if quick == 0 {

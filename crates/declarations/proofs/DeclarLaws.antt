@@ -18,29 +18,31 @@ use Rattle.pool.specs.Tree.{Name, Level, Expr, var, sort, const, app, pi, lam, 
 use Rattle.pool.specs.Unfold.{nameAt, listAt, exprAt, declarAt, hasValue}
 use Rattle.pool.specs.Rules.{declarOk}
 use Rattle.pool.specs.Sound.{Sound}
-use Rattle.pool.proofs.Scan.{and-left, and-right}
-use Rattle.names.specs.Docs.{_⊹_, quoted, G, Parenable, under}
-use Rattle.names.specs.Words.{wordBytes}
-use Rattle.names.proofs.Emitting.{emit-stopped}
-use Rattle.pretty_printer.specs.declared.stack.Stack.{Stack}
-use Rattle.pretty_printer.specs.Runs.{leading, following}
-use Rattle.pretty_printer.specs.Binders.{Binder, binders, chainBody, pushed, inForce, isNamedPi, telescope, bindersPar}
+use Rattle.basics.proofs.Booleans.{and-left, and-right}
+use Rattle.pieces.specs.Docs.{_⊹_, quoted, G, Parenable, under}
+use Rattle.pieces.specs.Words.{wordBytes}
+use Rattle.pieces.proofs.Emitting.{emit-stopped}
+use Rattle.binders.specs.declared.stack.Stack.{Stack}
+use Rattle.binders.specs.Runs.{leading, following}
+use Rattle.binders.specs.Binders.{Binder, binders, chainBody, pushed, inForce, isNamedPi, telescope, bindersPar}
 use Rattle.pretty_printer.specs.Exprs.{exprPar, exprDoc}
-use Rattle.pretty_printer.specs.Rename.{up, rename}
-use Rattle.pretty_printer.specs.Scopes.{namesBelow, namesOf, placeIn, Linked, Held, scoped, lastScope, Chained}
-use Rattle.pretty_printer.specs.Asked.{Pooled, Asked, InChain, ChainPushed, RunEnd}
-use Rattle.pretty_printer.specs.Declars.{word, info, Taken, taken, defRest, axiomRest, mainDef, mainAxiom, declarDoc}
-use Rattle.pretty_printer.specs.Steps.{isBinder, inRun, runLength, chainLength, dropChain}
-use Rattle.pretty_printer.specs.Puts.{joinPiece}
+use Rattle.binders.specs.Rename.{up, rename}
+use Rattle.binders.specs.Scopes.{namesBelow, namesOf, placeIn, Linked, Held, scoped, lastScope, Chained}
+use Rattle.binders.specs.Asked.{Pooled, Asked, InChain, ChainPushed, RunEnd}
+use Rattle.declarations.specs.Declars.{word, info, Taken, taken, defRest, axiomRest, mainDef, mainAxiom, declarDoc}
+use Rattle.binders.specs.Steps.{isBinder, inRun, runLength, chainLength, dropChain}
+use Rattle.binders.specs.Puts.{joinPiece}
 use Rattle.pretty_printer.specs.Parts.{printed, inScope, chainPart, groupsPart}
 use Rattle.declarations.specs.Heads.{Declared, TakenEnd, headPart, typePart, valuePart, defPart, defStart, defParts, axiomPart, axiomStart}
-use Rattle.pretty_printer.proofs.RenameLaws.{rename-agrees, rename-same, lift-adds}
-use Rattle.pretty_printer.proofs.ScopeLaws.{chain-length, scope-up, Under, chain-is-scoped, body-is-scoped, names-are-pushed, place-past}
+use Rattle.binders.proofs.RenameLaws.{rename-agrees, rename-same, lift-adds}
+use Rattle.binders.proofs.ScopeLaws.{chain-length, scope-up, Under, chain-is-scoped, body-is-scoped, names-are-pushed, place-past}
 use Rattle.pretty_printer.proofs.ChainLaws.{leading-takes, following-drops, run-length}
-use Rattle.pretty_printer.proofs.ViewLaws.{binder-row, binder-at, length-none}
-use Rattle.pretty_printer.proofs.DropLaws.{Later, later, length-scoped, run-within}
+use Rattle.binders.proofs.ViewLaws.{binder-row, binder-at, length-none}
+use Rattle.binders.proofs.DropLaws.{Later, later, length-scoped, run-within}
 use Rattle.pretty_printer.proofs.CallLaws.{binders-made, length-renamed, in-force}
 use Rattle.declarations.proofs.TakenLaws.{taken-few}
+use Rattle.binders.specs.Options.{PpOptions, indented}
+use Rattle.binders.specs.Shown.{NamesInForce}
 
 -- ---- rows
 
@@ -92,33 +94,33 @@ head-puts kind k n ls st e h =
 
 -- ---- the pieces
 
-module _ (indent : ℕ) (p : Pool) (k : Stack) where
+module _ (opts : PpOptions) (p : Pool) (k : Stack) where
   pub type-puts : (m : ℕ) (e : Expr) (st : State) →
-      putNest indent (putJoin (putGroup (emit (under 0 (chainPart indent p k m m e)) (putBreak 1 st)))) ≡ emit (typePart indent p k m e) st
+      putNest (opts .indent) (putJoin (putGroup (emit (under 0 (chainPart opts p k m m e)) (putBreak 1 st)))) ≡ emit (typePart opts p k m e) st
   unfolding typePart emit
   type-puts m e st = refl
 
   pub value-puts : (m : ℕ) (e : Expr) (st : State) →
-      putNest indent (putJoin (putGroup (emit (under 0 (inScope indent p k m e)) (putBreak 1 st)))) ≡ emit (valuePart indent p k m e) st
+      putNest (opts .indent) (putJoin (putGroup (emit (under 0 (inScope opts p k m e)) (putBreak 1 st)))) ≡ emit (valuePart opts p k m e) st
   unfolding valuePart emit
   value-puts m e st = refl
 
-  pub def-colon : (n : ℕ) (e : Expr) (st : State) → n ≡ 0 → putText (wordBytes 25) st ≡ defStart indent p k n e st
+  pub def-colon : (n : ℕ) (e : Expr) (st : State) → n ≡ 0 → putText (wordBytes 25) st ≡ defStart opts p k n e st
   unfolding defStart
   def-colon n e st z = rw z
 
   pub def-binders : (n : ℕ) (e : Expr) (st : State) → (n ≡ 0 → ⊥) →
-      putJoin (putText (wordBytes 25) (putJoin (putText (wordBytes 24) (putNest indent (putGroup (groupsPart indent p k true 0 0 n e st)))))) ≡ defStart indent p k n e st
+      putJoin (putText (wordBytes 25) (putJoin (putText (wordBytes 24) (putNest (opts .indent) (putGroup (groupsPart opts p k true 0 0 n e st)))))) ≡ defStart opts p k n e st
   unfolding defStart joinPiece
   def-binders zero e st z = absurd (z refl)
   def-binders (suc n) e st z = refl
 
-  pub axiom-colon : (n : ℕ) (e : Expr) (st : State) → n ≡ 0 → putText (wordBytes 25) st ≡ axiomStart indent p k n e st
+  pub axiom-colon : (n : ℕ) (e : Expr) (st : State) → n ≡ 0 → putText (wordBytes 25) st ≡ axiomStart opts p k n e st
   unfolding axiomStart
   axiom-colon n e st z = rw z
 
   pub axiom-binders : (n : ℕ) (e : Expr) (st : State) → (n ≡ 0 → ⊥) →
-      putJoin (putText (wordBytes 25) (putJoin (putText (wordBytes 24) (groupsPart indent p k true 0 0 n e st)))) ≡ axiomStart indent p k n e st
+      putJoin (putText (wordBytes 25) (putJoin (putText (wordBytes 24) (groupsPart opts p k true 0 0 n e st)))) ≡ axiomStart opts p k n e st
   unfolding axiomStart joinPiece
   axiom-binders zero e st z = absurd (z refl)
   axiom-binders (suc n) e st z = refl
@@ -131,67 +133,67 @@ filled zero l f h e = f refl
 filled (suc n) [] f h e = omega arith
 filled (suc n) (x ∷ xs) f h e = omega arith
 
-module _ (indent : ℕ) (pp : Expr → Parenable) where
+module _ (opts : PpOptions) (pp : Expr → Parenable) where
   no-taken : (l : List Binder) (T : Marked) (st : State) → l ≡ [] →
-      putJoin (putText (wordBytes 26) (putJoin (putText (wordBytes 24) (putJoin (emit T (putText (wordBytes 25) st)))))) ≡ emit (defRest indent pp l T) st
+      putJoin (putText (wordBytes 26) (putJoin (putText (wordBytes 24) (putJoin (emit T (putText (wordBytes 25) st)))))) ≡ emit (defRest opts pp l T) st
   unfolding defRest emit quoted
   no-taken l T st e = rw e
 
   some-taken : (l : List Binder) (T : Marked) (st : State) → (length l ≡ 0 → ⊥) →
       putGroup
       (putJoin (putText (wordBytes 26) (putJoin (putText (wordBytes 24)
-      (putJoin (emit T (putJoin (putText (wordBytes 25) (putJoin (putText (wordBytes 24) (putNest indent (putGroup (emit (telescope indent pp l) st)))))))))))))
-      ≡ emit (defRest indent pp l T) st
+      (putJoin (emit T (putJoin (putText (wordBytes 25) (putJoin (putText (wordBytes 24) (putNest (opts .indent) (putGroup (emit (telescope opts pp l) st)))))))))))))
+      ≡ emit (defRest opts pp l T) st
   unfolding defRest emit quoted
   some-taken [] T st f = absurd (f refl)
   some-taken (x ∷ xs) T st f = refl
 
   no-leading : (l : List Binder) (T : Marked) (st : State) → l ≡ [] →
-      putNest indent (putGroup (putJoin (putGroup (emit T (putJoin (putBreak 1 (putText (wordBytes 25) st))))))) ≡ emit (axiomRest indent pp l T) st
+      putNest (opts .indent) (putGroup (putJoin (putGroup (emit T (putJoin (putBreak 1 (putText (wordBytes 25) st))))))) ≡ emit (axiomRest opts pp l T) st
   unfolding axiomRest emit quoted
   no-leading l T st e = rw e
 
   some-leading : (l : List Binder) (T : Marked) (st : State) → (length l ≡ 0 → ⊥) →
-      putNest indent (putGroup (putJoin (putGroup (emit T (putJoin (putBreak 1 (putJoin (putText (wordBytes 25) (putJoin (putText (wordBytes 24) (emit (telescope indent pp l) st)))))))))))
-      ≡ emit (axiomRest indent pp l T) st
+      putNest (opts .indent) (putGroup (putJoin (putGroup (emit T (putJoin (putBreak 1 (putJoin (putText (wordBytes 25) (putJoin (putText (wordBytes 24) (emit (telescope opts pp l) st)))))))))))
+      ≡ emit (axiomRest opts pp l T) st
   unfolding axiomRest emit quoted
   some-leading [] T st f = absurd (f refl)
   some-leading (x ∷ xs) T st f = refl
 
-module _ (indent : ℕ) (p : Pool) (k : Stack) where
+module _ (opts : PpOptions) (p : Pool) (k : Stack) where
   pub rest-none : (count : ℕ) (e e₁ : Expr) (st : State) → count ≡ 0 → e₁ ≡ dropChain count e →
-      putJoin (putText (wordBytes 26) (putJoin (putText (wordBytes 24) (putJoin (emit (typePart indent p k count e₁) (defStart indent p k count e st))))))
-      ≡ emit (defPart indent p k count e) st
+      putJoin (putText (wordBytes 26) (putJoin (putText (wordBytes 24) (putJoin (emit (typePart opts p k count e₁) (defStart opts p k count e st))))))
+      ≡ emit (defPart opts p k count e) st
   unfolding defPart defStart
-  rest-none count e e₁ st z d = rw (d, z) (no-taken indent (printed indent p k) [] (typePart indent p k 0 (dropChain 0 e)) st refl)
+  rest-none count e e₁ st z d = rw (d, z) (no-taken opts (printed opts p k) [] (typePart opts p k 0 (dropChain 0 e)) st refl)
 
   pub rest-some : (count : ℕ) (e e₁ : Expr) (st : State) → (count ≡ 0 → ⊥) → count ≤ chainLength e → e₁ ≡ dropChain count e →
-      putGroup (putJoin (putText (wordBytes 26) (putJoin (putText (wordBytes 24) (putJoin (emit (typePart indent p k count e₁) (defStart indent p k count e st)))))))
-      ≡ emit (defPart indent p k count e) st
+      putGroup (putJoin (putText (wordBytes 26) (putJoin (putText (wordBytes 24) (putJoin (emit (typePart opts p k count e₁) (defStart opts p k count e st)))))))
+      ≡ emit (defPart opts p k count e) st
   unfolding defPart defStart joinPiece groupsPart
   rest-some zero e e₁ st f l d = absurd (f refl)
   rest-some (suc n) e e₁ st f l d =
       rw d
-      (some-taken indent (printed indent p k) (take (suc n) (scoped k 0 0 e)) (typePart indent p k (suc n) (dropChain (suc n) e)) st
+      (some-taken opts (printed opts p k) (take (suc n) (scoped k 0 0 e)) (typePart opts p k (suc n) (dropChain (suc n) e)) st
       (filled (suc n) (scoped k 0 0 e) f (rw (length-scoped k 0 0 e) l)))
 
   pub axiom-rest : (count : ℕ) (e e₁ : Expr) (st : State) → count ≤ chainLength e → e₁ ≡ dropChain count e →
-      putNest indent (putGroup (putJoin (putGroup (emit (under 0 (chainPart indent p k count count e₁)) (putJoin (putBreak 1 (axiomStart indent p k count e st)))))))
-      ≡ emit (axiomPart indent p k count e) st
+      putNest (opts .indent) (putGroup (putJoin (putGroup (emit (under 0 (chainPart opts p k count count e₁)) (putJoin (putBreak 1 (axiomStart opts p k count e st)))))))
+      ≡ emit (axiomPart opts p k count e) st
   unfolding axiomPart axiomStart joinPiece groupsPart
-  axiom-rest zero e e₁ st l d = rw d (no-leading indent (printed indent p k) [] (under 0 (chainPart indent p k 0 0 (dropChain 0 e))) st refl)
+  axiom-rest zero e e₁ st l d = rw d (no-leading opts (printed opts p k) [] (under 0 (chainPart opts p k 0 0 (dropChain 0 e))) st refl)
   axiom-rest (suc n) e e₁ st l d =
       rw d
-      (some-leading indent (printed indent p k) (take (suc n) (scoped k 0 0 e)) (under 0 (chainPart indent p k (suc n) (suc n) (dropChain (suc n) e))) st
+      (some-leading opts (printed opts p k) (take (suc n) (scoped k 0 0 e)) (under 0 (chainPart opts p k (suc n) (suc n) (dropChain (suc n) e))) st
       (filled (suc n) (scoped k 0 0 e) (λ z. omega arith) (rw (length-scoped k 0 0 e) l)))
 
   -- the binders that left, with the code's own numbers
   pub parts-row : (r v row value count : ℕ) (st : State) → TakenEnd p r v row value count →
-      putJoin (emit (valuePart indent p k count (exprAt p value)) (putJoin (emit (defPart indent p k count (exprAt p r)) st)))
-      ≡ defParts indent p k (exprAt p r) (exprAt p v) st
+      putJoin (emit (valuePart opts p k count (exprAt p value)) (putJoin (emit (defPart opts p k count (exprAt p r)) st)))
+      ≡ defParts opts p k (exprAt p r) (exprAt p v) st
   unfolding defParts
   parts-row r v row value count st end =
-      ap₂ (λ (n : ℕ) (x : Expr). putJoin (emit (valuePart indent p k n x) (putJoin (emit (defPart indent p k n (exprAt p r)) st)))) (end .is-count) (end .is-value)
+      ap₂ (λ (n : ℕ) (x : Expr). putJoin (emit (valuePart opts p k n x) (putJoin (emit (defPart opts p k n (exprAt p r)) st)))) (end .is-count) (end .is-value)
 
 pub positive : (n : ℕ) → (n ≡ 0 → ⊥) → 0 < n
 positive zero f = absurd (f refl)
@@ -217,7 +219,8 @@ none-force : (l : List Binder) (d : Marked) (st : State) → l ≡ [] → emit (
 unfolding inForce
 none-force l d st e = rw e
 
-pub forced : (p : Pool) → Sound p → (y n : ℕ) (d : Marked) (st : State) → y < E (p .words) → n ≡ chainLength (exprAt p y) → emit (inForce (binders (exprAt p y)) 0 d) st ≡ emit d (putNames y n st)
+pub forced : (p : Pool) → Sound p → (y n : ℕ) (d : Marked) (st : State) → y < E (p .words) → n ≡ chainLength (exprAt p y) → emit
+    (inForce (binders (exprAt p y)) 0 d) st ≡ emit d (putNames y n st)
 forced p sound y n d st h z = by (isBinder (exprAt p y)) refl
   where
     by : (b : Bool) → isBinder (exprAt p y) ≡ b → emit (inForce (binders (exprAt p y)) 0 d) st ≡ emit d (putNames y n st)
@@ -227,14 +230,16 @@ forced p sound y n d st h z = by (isBinder (exprAt p y)) refl
         ∙ ap (emit d) (sym (ap (λ (x : ℕ). putNames y x st) (z ∙ none) ∙ no-names y st))
     by true f =
         let row = binder-at p sound y h (binder-row p sound y h ∙ f) in
-        let made = ap binders (row .made) ∙ binders-made (eqb (exprWord (p .words) y 0) 4) y (nameAt p (exprWord (p .words) y 1)) (exprWord (p .words) y 2) (exprAt p (exprWord (p .words) y 3)) (exprAt p (exprWord (p .words) y 4)) in
+        let made = ap binders (row .made)
+        ∙ binders-made (eqb (exprWord (p .words) y 0) 4) y (nameAt p (exprWord (p .words) y 1)) (exprWord (p .words) y 2) (exprAt p
+        (exprWord (p .words) y 3)) (exprAt p (exprWord (p .words) y 4)) in
         ap (λ (l : List Binder). emit (inForce l 0 d) st) made
         ∙ in-force _ (binders (exprAt p (exprWord (p .words) y 4))) 0 d st
         ∙ ap (λ (x : ℕ). emit d (putNames y x st)) (zero-add _ ∙ ap length (sym made) ∙ binders-length (exprAt p y) ∙ sym z)
 
 -- ---- a chain that starts on the empty stack
 
-module _ (indent : ℕ) (p : Pool) (k : Stack) (e : Expr) (c : Chained p k 0 0 e) where
+module _ (opts : PpOptions) (p : Pool) (k : Stack) (e : Expr) (c : Chained p k 0 0 e) where
   self : rename (λ i. i) e ≡ e
   self = rename-same (λ i. i) (λ i. refl) e
 
@@ -256,12 +261,12 @@ module _ (indent : ℕ) (p : Pool) (k : Stack) (e : Expr) (c : Chained p k 0 0 e
   after n l = later p k 0 n e l
 
   -- what is left of the type
-  left-is : (n : ℕ) → n ≤ chainLength e → bindersPar indent (printed indent p k) (drop n (binders e)) (printed indent p k (chainBody e)) ≡ chainPart indent p k n n (dropChain n e)
+  left-is : (n : ℕ) → n ≤ chainLength e → bindersPar opts (printed opts p k) (drop n (binders e)) (printed opts p k (chainBody e)) ≡ chainPart opts p k n n (dropChain n e)
   unfolding chainPart inScope
   left-is n l =
       let r : scoped k n n (dropChain n e) ≡ drop n (scoped k 0 0 e) = rw (zero-add n) at (after n l .rest) in
       let s : lastScope n n (dropChain n e) ≡ lastScope 0 0 e = rw (zero-add n) at (after n l .scope) in
-      ap₂ (λ (x : List Binder) (y : Expr). bindersPar indent (printed indent p k) x (printed indent p k y)) (ap (drop n) binders-are ∙ sym r)
+      ap₂ (λ (x : List Binder) (y : Expr). bindersPar opts (printed opts p k) x (printed opts p k y)) (ap (drop n) binders-are ∙ sym r)
       (body-is ∙ ap₂ (λ (x : ℕ) (y : Expr). rename (placeIn k x) y) (sym s) (sym (after n l .body)))
 
   -- the scope after n binders
@@ -303,39 +308,39 @@ place-self p k (suc n) m (proj a j e) c l f i = absurd (omega arith)
 place-self p k (suc n) m (nat s) c l f i = absurd (omega arith)
 place-self p k (suc n) m (str s) c l f i = absurd (omega arith)
 
-module _ (indent : ℕ) (p : Pool) (k : Stack) (e : Expr) (c : Chained p k 0 0 e) where
+module _ (opts : PpOptions) (p : Pool) (k : Stack) (e : Expr) (c : Chained p k 0 0 e) where
   -- the value, in the scope of the binders taken
   value-is : (n : ℕ) (v : Expr) → n ≤ chainLength e → lift (length (drop n (binders e))) 0 v ≡ rename (placeIn k n) v
   value-is n v l =
-      let len : length (drop n (binders e)) + n ≡ k .count = drop-length indent p k e c n l in
+      let len : length (drop n (binders e)) + n ≡ k .count = drop-length opts p k e c n l in
       ap (lift (length (drop n (binders e))) 0) (sym (rename-same (λ i. i) (λ i. refl) v))
       ∙ lift-adds (length (drop n (binders e))) (λ i. i) v
       ∙ rename-agrees (λ i. i + length (drop n (binders e))) (placeIn k n)
       (λ i. ap (λ (x : ℕ). i + x) (omega arith) ∙ sym (rw (zero-add n) at (place-self p k n 0 e c l (λ j. place-past k j ∙ omega arith) i))) v
 
   def-is : (kind : ℕ) (name : Name) (levels : List Level) (v : Expr) →
-      mainDef indent kind name levels e v
+      mainDef opts kind name levels e v
       ≡ headPart kind name levels
-      ⊹ inForce (binders e) 0 (defPart indent p k (taken (binders e) v 0 .count) e)
-      ⊹ valuePart indent p k (taken (binders e) v 0 .count) (taken (binders e) v 0 .value)
+      ⊹ inForce (binders e) 0 (defPart opts p k (taken (binders e) v 0 .count) e)
+      ⊹ valuePart opts p k (taken (binders e) v 0 .count) (taken (binders e) v 0 .value)
   unfolding mainDef headPart defPart typePart valuePart inScope
   def-is kind name levels v =
       let few : taken (binders e) v 0 .count ≤ chainLength e = omega (arith, taken-few (binders e) v 0, binders-length e) in
       let n : ℕ = taken (binders e) v 0 .count in
-      rw (names-are indent p k e c, value-is n (taken (binders e) v 0 .value) few, left-is indent p k e c n few, ap (take n) (binders-are indent p k e c))
+      rw (names-are opts p k e c, value-is n (taken (binders e) v 0 .value) few, left-is opts p k e c n few, ap (take n) (binders-are opts p k e c))
 
   axiom-is : (kind : ℕ) (name : Name) (levels : List Level) (n : ℕ) → n ≡ runLength true e →
-      mainAxiom indent kind name levels e ≡ headPart kind name levels ⊹ inForce (binders e) 0 (axiomPart indent p k n e)
+      mainAxiom opts kind name levels e ≡ headPart kind name levels ⊹ inForce (binders e) 0 (axiomPart opts p k n e)
   unfolding mainAxiom headPart axiomPart inRun
   axiom-is kind name levels n z =
-      let bs = binders-are indent p k e c in
+      let bs = binders-are opts p k e c in
       let count : length (leading isNamedPi (scoped k 0 0 e)) ≡ n = run-length k 0 0 true e ∙ sym z in
       let first : leading isNamedPi (binders e) ≡ take n (scoped k 0 0 e) =
       ap (leading isNamedPi) bs ∙ leading-takes isNamedPi (scoped k 0 0 e) ∙ ap (λ (x : ℕ). take x (scoped k 0 0 e)) count in
       let rest : following isNamedPi (binders e) ≡ drop n (binders e) =
       ap (following isNamedPi) bs ∙ following-drops isNamedPi (scoped k 0 0 e) ∙ ap₂ drop count (sym bs) in
       let few : n ≤ chainLength e = rw z (run-within true e) in
-      rw (names-are indent p k e c, first, rest, left-is indent p k e c n few)
+      rw (names-are opts p k e c, first, rest, left-is opts p k e c n few)
 
 -- ---- whole declarations
 
@@ -357,7 +362,7 @@ module _ {bs ns ws : List ℕ} {t : Tables} {r : ℕ} (a : Declared bs ns ws t r
   pub declared-row : DeclarRow p r
   declared-row = declar-row p (a .pool .ready .sound) r (a .row)
 
-  module _ (indent y n : ℕ) (is : y ≡ w 3) (count : n ≡ chainLength (exprAt p y)) (st : State) where
+  module _ (opts : PpOptions) (y n : ℕ) (is : y ≡ w 3) (count : n ≡ chainLength (exprAt p y)) (st : State) where
     abbrev head : State
     head = emit (headPart (w 0) (nameAt p (w 1)) (listAt p (w 2))) st
 
@@ -368,24 +373,24 @@ module _ {bs ns ws : List ℕ} {t : Tables} {r : ℕ} (a : Declared bs ns ws t r
     names-put d = join-emits _ (inForce (binders (exprAt p y)) 0 d) st ∙ ap putJoin (forced p (a .pool .ready .sound) y n d head low count)
 
     pub def-goes-on : (k : Stack) (v : ℕ) → v ≡ w 4 → InChain bs ns ws t k 0 0 y →
-        defParts indent p k (exprAt p y) (exprAt p v) (putNames y n head) ≡ emit (mainDef indent (w 0) (nameAt p (w 1)) (listAt p (w 2)) (exprAt p (w 3)) (exprAt p (w 4))) st
+        defParts opts p k (exprAt p y) (exprAt p v) (putNames y n head) ≡ emit (mainDef opts (w 0) (nameAt p (w 1)) (listAt p (w 2)) (exprAt p (w 3)) (exprAt p (w 4))) st
     unfolding defParts
     def-goes-on k v z c =
-        let whole = def-is indent p k (exprAt p y) (c .chained) (w 0) (nameAt p (w 1)) (listAt p (w 2)) (exprAt p v) in
+        let whole = def-is opts p k (exprAt p y) (c .chained) (w 0) (nameAt p (w 1)) (listAt p (w 2)) (exprAt p v) in
         let m : Taken = taken (binders (exprAt p y)) (exprAt p v) 0 in
         sym
-        (ap₂ (λ (x z : ℕ). emit (mainDef indent (w 0) (nameAt p (w 1)) (listAt p (w 2)) (exprAt p x) (exprAt p z)) st) (sym is) (sym z)
+        (ap₂ (λ (x z : ℕ). emit (mainDef opts (w 0) (nameAt p (w 1)) (listAt p (w 2)) (exprAt p x) (exprAt p z)) st) (sym is) (sym z)
         ∙ ap (λ (x : Marked). emit x st) whole
-        ∙ join-emits _ (valuePart indent p k (m .count) (m .value)) st
-        ∙ ap (λ (x : State). putJoin (emit (valuePart indent p k (m .count) (m .value)) x)) (names-put (defPart indent p k (m .count) (exprAt p y))))
+        ∙ join-emits _ (valuePart opts p k (m .count) (m .value)) st
+        ∙ ap (λ (x : State). putJoin (emit (valuePart opts p k (m .count) (m .value)) x)) (names-put (defPart opts p k (m .count) (exprAt p y))))
 
     pub axiom-goes-on : (k : Stack) (row m : ℕ) → RunEnd p true y row m → InChain bs ns ws t k 0 0 y →
-        putJoin (emit (axiomPart indent p k m (exprAt p y)) (putNames y n head)) ≡ emit (mainAxiom indent (w 0) (nameAt p (w 1)) (listAt p (w 2)) (exprAt p (w 3))) st
+        putJoin (emit (axiomPart opts p k m (exprAt p y)) (putNames y n head)) ≡ emit (mainAxiom opts (w 0) (nameAt p (w 1)) (listAt p (w 2)) (exprAt p (w 3))) st
     axiom-goes-on k row m end c =
         sym
-        (ap (λ (x : ℕ). emit (mainAxiom indent (w 0) (nameAt p (w 1)) (listAt p (w 2)) (exprAt p x)) st) (sym is)
-        ∙ ap (λ (x : Marked). emit x st) (axiom-is indent p k (exprAt p y) (c .chained) (w 0) (nameAt p (w 1)) (listAt p (w 2)) m (end .length))
-        ∙ names-put (axiomPart indent p k m (exprAt p y)))
+        (ap (λ (x : ℕ). emit (mainAxiom opts (w 0) (nameAt p (w 1)) (listAt p (w 2)) (exprAt p x)) st) (sym is)
+        ∙ ap (λ (x : Marked). emit x st) (axiom-is opts p k (exprAt p y) (c .chained) (w 0) (nameAt p (w 1)) (listAt p (w 2)) m (end .length))
+        ∙ names-put (axiomPart opts p k m (exprAt p y)))
 
     module _ (stopped : eqb (sinkOf (putNames y n head) .stop) 0 ≡ false) where
       names-stop : (d : Marked) → emit (headPart (w 0) (nameAt p (w 1)) (listAt p (w 2)) ⊹ inForce (binders (exprAt p y)) 0 d) st ≡ putNames y n head
@@ -394,13 +399,13 @@ module _ {bs ns ws : List ℕ} {t : Tables} {r : ℕ} (a : Declared bs ns ws t r
       then-stops : (d u : Marked) → emit (headPart (w 0) (nameAt p (w 1)) (listAt p (w 2)) ⊹ inForce (binders (exprAt p y)) 0 d ⊹ u) st ≡ putNames y n head
       then-stops d u = join-emits _ u st ∙ ap (λ (x : State). putJoin (emit u x)) (names-stop d) ∙ joined-stopped u (putNames y n head) stopped
 
-      pub def-stops : putNames y n head ≡ emit (mainDef indent (w 0) (nameAt p (w 1)) (listAt p (w 2)) (exprAt p (w 3)) (exprAt p (w 4))) st
+      pub def-stops : putNames y n head ≡ emit (mainDef opts (w 0) (nameAt p (w 1)) (listAt p (w 2)) (exprAt p (w 3)) (exprAt p (w 4))) st
       unfolding mainDef headPart
-      def-stops = sym (ap (λ (x : ℕ). emit (mainDef indent (w 0) (nameAt p (w 1)) (listAt p (w 2)) (exprAt p x) (exprAt p (w 4))) st) (sym is) ∙ then-stops _ _)
+      def-stops = sym (ap (λ (x : ℕ). emit (mainDef opts (w 0) (nameAt p (w 1)) (listAt p (w 2)) (exprAt p x) (exprAt p (w 4))) st) (sym is) ∙ then-stops _ _)
 
-      pub axiom-stops : putNames y n head ≡ emit (mainAxiom indent (w 0) (nameAt p (w 1)) (listAt p (w 2)) (exprAt p (w 3))) st
+      pub axiom-stops : putNames y n head ≡ emit (mainAxiom opts (w 0) (nameAt p (w 1)) (listAt p (w 2)) (exprAt p (w 3))) st
       unfolding mainAxiom headPart
-      axiom-stops = sym (ap (λ (x : ℕ). emit (mainAxiom indent (w 0) (nameAt p (w 1)) (listAt p (w 2)) (exprAt p x)) st) (sym is) ∙ names-stop _)
+      axiom-stops = sym (ap (λ (x : ℕ). emit (mainAxiom opts (w 0) (nameAt p (w 1)) (listAt p (w 2)) (exprAt p x)) st) (sym is) ∙ names-stop _)
 
 -- ---- rows of a chain that starts on the empty stack
 
@@ -411,14 +416,14 @@ module _ {bs ns ws : List ℕ} {t : Tables} {k : Stack} {r : ℕ} (c : InChain b
   -- the first binders' names are on the stack
   pub scope-after : (n : ℕ) → n ≤ chainLength (exprAt q r) → n ≤ k .count
   scope-after n few =
-      let len : length (scoped k n n (dropChain n (exprAt q r))) + n ≡ k .count = after-scope 0 q k (exprAt q r) (c .chained) n few in
+      let len : length (scoped k n n (dropChain n (exprAt q r))) + n ≡ k .count = after-scope (indented 0) q k (exprAt q r) (c .chained) n few in
       omega arith
 
   pub asked-within : (n x : ℕ) → n ≤ k .count → x < E ws → Asked bs ns ws t k n x
   asked-within n x within low = record { pool = c .asked .pool; held = c .asked .held; scope = within; row = low }
 
   pub chain-after : (n x : ℕ) → n ≤ chainLength (exprAt q r) → x < E ws → exprAt q x ≡ dropChain n (exprAt q r) → InChain bs ns ws t k n n x
-  chain-after n x few low tree = record { asked = asked-within n x (scope-after n few) low; chained = rw tree (after-chained 0 q k (exprAt q r) (c .chained) n few) }
+  chain-after n x few low tree = record { asked = asked-within n x (scope-after n few) low; chained = rw tree (after-chained (indented 0) q k (exprAt q r) (c .chained) n few) }
 
 pub held-none : (p : Pool) (k : Stack) → Linked k → k .count ≡ 0 → Held p k
 held-none p k l e = record { linked = l; named = λ i h. absurd (omega arith) }
@@ -437,13 +442,13 @@ names-none : (p : Pool) (k : Stack) → k .count ≡ 0 → namesOf p k ≡ []
 unfolding namesOf namesBelow
 names-none p k e = ap (namesBelow p k) e
 
-pub expr-lists : (indent : ℕ) (p : Pool) (k : Stack) (e : Expr) (st : State) → k .count ≡ 0 → putGroup (emit (under 0 (inScope indent p k 0 e)) st) ≡ emit (exprDoc indent e) st
+pub expr-lists : (opts : PpOptions) (p : Pool) (k : Stack) (e : Expr) (st : State) → k .count ≡ 0 → putGroup (emit (under 0 (inScope opts p k 0 e)) st) ≡ emit (exprDoc opts e) st
 unfolding exprDoc inScope emit
-expr-lists indent p k e st z =
-    ap₂ (λ (x : List Name) (y : Expr). putGroup (emit (under 0 (exprPar indent x y)) st)) (names-none p k z)
+expr-lists opts p k e st z =
+    ap₂ (λ (x : NamesInForce) (y : Expr). putGroup (emit (under 0 (exprPar opts x y)) st)) (names-none p k z)
     (rename-same (placeIn k 0) (λ i. place-past k i ∙ omega arith) e)
 
-module _ (indent : ℕ) (p : Pool) (r : ℕ) (st : State) where
+module _ (opts : PpOptions) (p : Pool) (r : ℕ) (st : State) where
   abbrev wᵈ : ℕ → ℕ
   wᵈ i = declarWord (p .words) r i
 
@@ -455,16 +460,16 @@ module _ (indent : ℕ) (p : Pool) (r : ℕ) (st : State) where
   shown b = cond b (valued (wᵈ 0) (nameAt p (wᵈ 1)) (listAt p (wᵈ 2)) (exprAt p (wᵈ 3)) (exprAt p (wᵈ 4))) (typed (wᵈ 0) (nameAt p (wᵈ 1)) (listAt p (wᵈ 2)) (exprAt p (wᵈ 3)))
 
   pub valued-lists : (kind : ℕ) (v : Bool) → kind ≡ wᵈ 0 → v ≡ hasValue kind → v ≡ true →
-      putGroup (emit (mainDef indent (wᵈ 0) (nameAt p (wᵈ 1)) (listAt p (wᵈ 2)) (exprAt p (wᵈ 3)) (exprAt p (wᵈ 4))) st) ≡ emit (declarDoc indent (declarAt p r)) st
+      putGroup (emit (mainDef opts (wᵈ 0) (nameAt p (wᵈ 1)) (listAt p (wᵈ 2)) (exprAt p (wᵈ 3)) (exprAt p (wᵈ 4))) st) ≡ emit (declarDoc opts (declarAt p r)) st
   unfolding declarAt declarDoc
   valued-lists kind v ek ev et =
-      group-emits _ ∙ sym (ap (λ (b : Bool). emit (declarDoc indent (shown b)) st) (ap hasValue (sym ek) ∙ sym ev ∙ et))
+      group-emits _ ∙ sym (ap (λ (b : Bool). emit (declarDoc opts (shown b)) st) (ap hasValue (sym ek) ∙ sym ev ∙ et))
 
   pub typed-lists : (kind : ℕ) (v : Bool) → kind ≡ wᵈ 0 → v ≡ hasValue kind → v ≡ false →
-      putGroup (emit (mainAxiom indent (wᵈ 0) (nameAt p (wᵈ 1)) (listAt p (wᵈ 2)) (exprAt p (wᵈ 3))) st) ≡ emit (declarDoc indent (declarAt p r)) st
+      putGroup (emit (mainAxiom opts (wᵈ 0) (nameAt p (wᵈ 1)) (listAt p (wᵈ 2)) (exprAt p (wᵈ 3))) st) ≡ emit (declarDoc opts (declarAt p r)) st
   unfolding declarAt declarDoc
   typed-lists kind v ek ev ef =
-      group-emits _ ∙ sym (ap (λ (b : Bool). emit (declarDoc indent (shown b)) st) (ap hasValue (sym ek) ∙ sym ev ∙ ef))
+      group-emits _ ∙ sym (ap (λ (b : Bool). emit (declarDoc opts (shown b)) st) (ap hasValue (sym ek) ∙ sym ev ∙ ef))
 
 -- a kind that has a value
 pub has-value : (kind k : ℕ) (v : Bool) → kind ≡ k → v ≡ hasValue kind → v ≡ true → hasValue k ≡ true

@@ -1,2 +1,3 @@
 pub mod TakenLaws
 pub mod DeclarLaws
+pub mod FineLaws

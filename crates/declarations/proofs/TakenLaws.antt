@@ -7,31 +7,25 @@ use mathlib.Core.List.{List, [], _∷_}
 use mathlib.Core.Path.{_≡_, refl, sym, ap, ap₂, _∙_}
 use lib.Dec.{eqb}
 use lib.ListN.{length}
+use Rattle.basics.proofs.Booleans.{and-both, and-true}
 use Rattle.pool.specs.Tables.{Pool, N, E, exprWord}
 use Rattle.pool.specs.Tree.{Name, Expr, var, sort, const, app, pi, lam, letᵉ, proj, nat, str, lift, occurs}
 use Rattle.pool.specs.Unfold.{nameAt, exprAt}
 use Rattle.pool.specs.Sound.{Sound}
 use Rattle.names.specs.Names.{isAnonymous}
-use Rattle.pretty_printer.specs.Binders.{Binder, binders}
-use Rattle.pretty_printer.specs.Declars.{canLeave, Taken, taken}
+use Rattle.binders.specs.Binders.{Binder, binders}
+use Rattle.declarations.specs.Declars.{canLeave, Taken, taken}
 use Rattle.declarations.specs.Heads.{canTake, TakenEnd}
-use Rattle.pretty_printer.specs.Steps.{binderKind, isBinder, firstBinder, inRun, chainLength, dropChain, mkBinder}
-use Rattle.pretty_printer.proofs.ViewLaws.{binder-row, BinderRow, binder-at, first-made, length-made, drop-made}
-use Rattle.pretty_printer.proofs.BinderLaws.{first-at, turned-true}
+use Rattle.binders.specs.Steps.{binderKind, isBinder, firstBinder, inRun, chainLength, dropChain, mkBinder}
+use Rattle.binders.proofs.ViewLaws.{binder-row, BinderRow, binder-at, first-made, length-made, drop-made}
+use Rattle.binders.proofs.BinderLaws.{first-at, turned-true}
 use Rattle.pretty_printer.proofs.CallLaws.{binders-made}
-use Rattle.pretty_printer.proofs.RunningLaws.{drop-nothing, drop-more, and-both}
-
-no-no : {A : Type 0} → true ≡ false → A
-no-no e = absurd (let z : _≡_ {A = ℕ} 0 1 = cc in omega arith)
+use Rattle.binders.proofs.RunningLaws.{drop-nothing, drop-more}
 
 no-middle : (a c b : Bool) → a && b ≡ false → false ≡ a && (c && b)
 no-middle true true b e = sym e
 no-middle true false b e = refl
 no-middle false c b e = refl
-
-and-true : (a : Bool) → a && true ≡ a
-and-true true = refl
-and-true false = refl
 
 -- ---- the tests
 

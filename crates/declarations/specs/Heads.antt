@@ -11,15 +11,16 @@ use Rattle.pool.specs.declared.tables.Tables.{Tables}
 use Rattle.pool.specs.Tables.{Pool, D, E}
 use Rattle.pool.specs.Tree.{Name, Level, Expr}
 use Rattle.pool.specs.Unfold.{exprAt}
-use Rattle.names.specs.Docs.{_⊹_, quoted, line, G, under}
-use Rattle.pretty_printer.specs.declared.stack.Stack.{Stack}
-use Rattle.pretty_printer.specs.Asked.{Pooled}
-use Rattle.pretty_printer.specs.Binders.{binders}
-use Rattle.pretty_printer.specs.Declars.{word, info, canLeave, Taken, taken, defRest, axiomRest}
-use Rattle.pretty_printer.specs.Scopes.{scoped}
-use Rattle.pretty_printer.specs.Steps.{firstBinder, isBinder, inRun, chainLength, dropChain}
-use Rattle.pretty_printer.specs.Puts.{joinPiece}
+use Rattle.pieces.specs.Docs.{_⊹_, quoted, line, G, under}
+use Rattle.binders.specs.declared.stack.Stack.{Stack}
+use Rattle.binders.specs.Asked.{Pooled}
+use Rattle.binders.specs.Binders.{binders}
+use Rattle.declarations.specs.Declars.{word, info, canLeave, Taken, taken, defRest, axiomRest}
+use Rattle.binders.specs.Scopes.{scoped}
+use Rattle.binders.specs.Steps.{firstBinder, isBinder, inRun, chainLength, dropChain}
+use Rattle.binders.specs.Puts.{joinPiece}
 use Rattle.pretty_printer.specs.Parts.{printed, inScope, chainPart, groupsPart}
+use Rattle.binders.specs.Options.{PpOptions}
 
 -- a row of the declarations
 pub record Declared (bs ns ws : List ℕ) (t : Tables) (r : ℕ) : Type 0 where
@@ -43,24 +44,24 @@ pub record TakenEnd (p : Pool) (r v row value count : ℕ) : Type 0 where
 unfoldable pub headPart : ℕ → Name → List Level → Marked
 headPart kind name levels = word kind ⊹ quoted " " ⊹ info name levels ⊹ quoted " "
 
-module _ (indent : ℕ) (p : Pool) (k : Stack) where
+module _ (opts : PpOptions) (p : Pool) (k : Stack) where
   -- "T = N(|+G(remaining type))", after m binders
   unfoldable pub typePart : ℕ → Expr → Marked
-  typePart m e = nestᵐ indent (line ⊹ G (under 0 (chainPart indent p k m m e)))
+  typePart m e = nestᵐ (opts .indent) (line ⊹ G (under 0 (chainPart opts p k m m e)))
 
   -- "N(|+G(opened value, lifted past the binders not taken))"
   unfoldable pub valuePart : ℕ → Expr → Marked
-  valuePart m e = nestᵐ indent (line ⊹ G (under 0 (inScope indent p k m e)))
+  valuePart m e = nestᵐ (opts .indent) (line ⊹ G (under 0 (inScope opts p k m e)))
 
   -- the rest of a declaration whose first binders left its type
   unfoldable pub defPart : ℕ → Expr → Marked
   defPart count e =
-      defRest indent (printed indent p k) (take count (scoped k 0 0 e)) (typePart count (dropChain count e))
+      defRest opts (printed opts p k) (take count (scoped k 0 0 e)) (typePart count (dropChain count e))
 
   -- before T: ":", or N(G(binders))+" "+":"
   unfoldable pub defStart : ℕ → Expr → State → State
   defStart zero e st = putText (bytes ":") st
-  defStart (suc n) e st = joinPiece ":" (joinPiece " " (putNest indent (putGroup (groupsPart indent p k true 0 0 (suc n) e st))))
+  defStart (suc n) e st = joinPiece ":" (joinPiece " " (putNest (opts .indent) (putGroup (groupsPart opts p k true 0 0 (suc n) e st))))
 
   -- the rest and the value of a definition
   unfoldable pub defParts : Expr → Expr → State → State
@@ -71,9 +72,9 @@ module _ (indent : ℕ) (p : Pool) (k : Stack) where
   -- the rest of another declaration, over its first binders
   unfoldable pub axiomPart : ℕ → Expr → Marked
   axiomPart count e =
-      axiomRest indent (printed indent p k) (take count (scoped k 0 0 e)) (under 0 (chainPart indent p k count count (dropChain count e)))
+      axiomRest opts (printed opts p k) (take count (scoped k 0 0 e)) (under 0 (chainPart opts p k count count (dropChain count e)))
 
   -- before the break: ":", or binders+" "+":"
   unfoldable pub axiomStart : ℕ → Expr → State → State
   axiomStart zero e st = putText (bytes ":") st
-  axiomStart (suc n) e st = joinPiece ":" (joinPiece " " (groupsPart indent p k true 0 0 (suc n) e st))
+  axiomStart (suc n) e st = joinPiece ":" (joinPiece " " (groupsPart opts p k true 0 0 (suc n) e st))

@@ -1,1 +1,4 @@
+-- what a reader must believe, in 01's order
+pub mod Declars
+-- what the contracts and the proofs speak of
 pub mod Heads

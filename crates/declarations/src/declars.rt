@@ -1,63 +1,72 @@
 // Declarations: word, info, the rest, and a value.
+use basics::bools::both;
+use binders::chain::chain_length;
+use binders::chain::push_chain;
+use binders::printer::Printer;
+use binders::runs::in_run;
+use binders::runs::run_end;
+use binders::stack::Stack;
 use document::sink::Sink;
 use document::sink::put_break;
 use document::sink::put_group;
 use document::sink::put_join;
 use document::sink::put_names;
 use document::sink::put_nest;
+use levels::levels::pp_uparams;
 use names::components::is_anonymous;
-use names::levels::pp_uparams;
 use names::names::pp_name_safe;
-use names::words::ASSIGN;
-use names::words::BLANK;
-use names::words::COLON;
-use names::words::join_line;
-use names::words::join_word;
-use names::words::put_word;
+use pieces::words::ASSIGN;
+use pieces::words::BLANK;
+use pieces::words::COLON;
+use pieces::words::join_line;
+use pieces::words::join_word;
+use pieces::words::put_word;
+use pool::fields::binder_body;
+use pool::fields::binder_name;
+use pool::fields::binder_style;
+use pool::fields::declar_kind;
+use pool::fields::declar_list;
+use pool::fields::declar_name;
+use pool::fields::declar_type;
+use pool::fields::declar_value;
+use pool::fields::expr_kind;
+use pool::kinds::EXPR_PI;
+use pool::kinds::STYLE_DEFAULT;
 use pool::tables::Tables;
-use pool::tables::declar_word;
-use pool::tables::expr_word;
-use pretty_printer::binders::in_run;
-use pretty_printer::binders::run_end;
-use pretty_printer::chain::chain_length;
-use pretty_printer::chain::push_chain;
 use pretty_printer::exprs::pp_expr;
 use pretty_printer::exprs::pp_tail;
 use pretty_printer::exprs::telescope;
-use pretty_printer::stack::Stack;
-use utf8::bools::both;
 ghost use mathlib.Core.Path.{_≡_};
 ghost use mathlib.Core.Bool.{true, _&&_};
 ghost use Prim.Native.Nat.{_+_, _<_, _≤_};
 ghost use Rattle.pool.specs.Tables.{E, declarWord};
-ghost use Rattle.pool.specs.Areas.{over};
+ghost use Rattle.pool.specs.Areas.{lent, given};
 ghost use Rattle.pool.specs.Unfold.{nameAt, listAt, exprAt, hasValue};
-ghost use Rattle.document.specs.Sink.{State, emit};
-ghost use Rattle.document.specs.Sink.State.{state};
-ghost use Rattle.pretty_printer.specs.Asked.{Pooled, Asked, InChain};
-ghost use Rattle.pretty_printer.specs.Declars.{info, canLeave, mainDef, mainAxiom};
-ghost use Rattle.pretty_printer.specs.Steps.{firstBinder, isBinder, chainLength, dropChain};
+ghost use Rattle.document.specs.Sink.{Leaves, emit};
+ghost use Rattle.binders.specs.Options.{optionsOf};
+ghost use Rattle.binders.specs.Asked.{Pooled, Asked, InChain};
+ghost use Rattle.declarations.specs.Declars.{info, canLeave, mainDef, mainAxiom};
+ghost use Rattle.binders.specs.Steps.{firstBinder, isBinder, chainLength, dropChain};
 ghost use Rattle.declarations.specs.Heads.{Declared, canTake, TakenEnd, headPart, typePart, valuePart, defPart, defStart, defParts, axiomPart, axiomStart};
 
 // Whether the binder at row r can leave a type: a pi of default style that is not anonymous.
 fn can_leave(bytes: &[u8], names: &[u32], words: &[u32], t: Tables, r: usize) -> bool
     requires { ⌜ (Pooled (now bytes) (now names) (now words) t) × (r < E (now words)) ⌝ }
-    ensures { λ v. ⌜ v ≡ (isBinder (exprAt (over (now (bytes .entry)) (now (names .entry)) (now (words .entry))) r) && canLeave (firstBinder (exprAt (over (now (bytes .entry)) (now (names .entry)) (now (words .entry))) r))) ⌝ }
+    ensures { λ v. ⌜ v ≡ (isBinder (exprAt (lent bytes names words) r) && canLeave
+        (firstBinder (exprAt (lent bytes names words) r))) ⌝ }
 {
-    if !both(
-        expr_word(words, t, r, 0) == 4,
-        expr_word(words, t, r, 2) == 0,
-    ) {
+    let pi = expr_kind(words, t, r) == EXPR_PI;
+    if !both(pi, binder_style(words, t, r) == STYLE_DEFAULT) {
         return false;
     }
-    let hidden = is_anonymous(bytes, names, words, t, expr_word(words, t, r, 1));
+    let hidden = is_anonymous(bytes, names, words, t, binder_name(words, t, r));
     !hidden
 }
 
 // Whether the binder at row r leaves the type: it can, and the value is a lambda.
 fn can_take(bytes: &[u8], names: &[u32], words: &[u32], t: Tables, r: usize, value: usize) -> bool
     requires { ⌜ (Pooled (now bytes) (now names) (now words) t) × (r < E (now words)) × (value < E (now words)) ⌝ }
-    ensures { λ v. ⌜ v ≡ canTake (exprAt (over (now (bytes .entry)) (now (names .entry)) (now (words .entry))) r) (exprAt (over (now (bytes .entry)) (now (names .entry)) (now (words .entry))) value) ⌝ }
+    ensures { λ v. ⌜ v ≡ canTake (exprAt (lent bytes names words) r) (exprAt (lent bytes names words) value) ⌝ }
 {
     both(
         can_leave(bytes, names, words, t, r),
@@ -75,15 +84,15 @@ pub struct Opened {
 // The leading binders of the type at row r leave it while they can and the value opens.
 fn taken(bytes: &[u8], names: &[u32], words: &[u32], t: Tables, r: usize, value: usize) -> Opened
     requires { ⌜ (Pooled (now bytes) (now names) (now words) t) × (r < E (now words)) × (value < E (now words)) ⌝ }
-    ensures { λ v. ⌜ TakenEnd (over (now (bytes .entry)) (now (names .entry)) (now (words .entry))) r value (v .row) (v .value) (v .count) ⌝ }
+    ensures { λ v. ⌜ TakenEnd (lent bytes names words) r value (v .row) (v .value) (v .count) ⌝ }
 {
     let mut at = r;
     let mut opened = value;
     let mut n: usize = 0;
     while can_take(bytes, names, words, t, at, opened) {
         n = n + 1;
-        at = expr_word(words, t, at, 4);
-        opened = expr_word(words, t, opened, 4);
+        at = binder_body(words, t, at);
+        opened = binder_body(words, t, opened);
     }
     Opened {
         row: at,
@@ -104,29 +113,14 @@ fn pp_declar_info(
     r: usize,
 ) -> Sink
     requires { ⌜ (Declared (now bytes) (now names) (now words) t r) ⌝ }
-    ensures { λ v. ⌜ state (now (rows .exit)) (now (text .exit)) v ≡ emit (info (nameAt (over (now (bytes .entry)) (now (names .entry)) (now (words .entry))) (declarWord (now (words .entry)) r 1)) (listAt (over (now (bytes .entry)) (now (names .entry)) (now (words .entry))) (declarWord (now (words .entry)) r 2))) (state (now (rows .entry)) (now (text .entry)) s) ⌝ }
+    ensures { λ v. ⌜ Leaves rows text s v (emit (info (nameAt (lent bytes names words) (declarWord (now (words .entry)) r 1))
+        (listAt (lent bytes names words) (declarWord (now (words .entry)) r 2)))) ⌝ }
 {
-    let a = pp_name_safe(
-        bytes,
-        names,
-        words,
-        t,
-        rows,
-        text,
-        s,
-        declar_word(words, t, r, 1),
-    );
-    let b = pp_uparams(
-        bytes,
-        names,
-        words,
-        t,
-        rows,
-        text,
-        a,
-        declar_word(words, t, r, 2),
-    );
-    put_join(rows, text, b)
+    let name = declar_name(words, t, r);
+    let s = pp_name_safe(bytes, names, words, t, rows, text, s, name);
+    let list = declar_list(words, t, r);
+    let s = pp_uparams(bytes, names, words, t, rows, text, s, list);
+    put_join(rows, text, s)
 }
 
 // Word and info, up to the rest.
@@ -141,13 +135,15 @@ fn pp_declar_head(
     r: usize,
 ) -> Sink
     requires { ⌜ (Declared (now bytes) (now names) (now words) t r) ⌝ }
-    ensures { λ v. ⌜ state (now (rows .exit)) (now (text .exit)) v ≡ emit (headPart (declarWord (now (words .entry)) r 0) (nameAt (over (now (bytes .entry)) (now (names .entry)) (now (words .entry))) (declarWord (now (words .entry)) r 1)) (listAt (over (now (bytes .entry)) (now (names .entry)) (now (words .entry))) (declarWord (now (words .entry)) r 2))) (state (now (rows .entry)) (now (text .entry)) s) ⌝ }
+    ensures { λ v. ⌜ Leaves rows text s v (emit (headPart (declarWord (now (words .entry)) r 0)
+        (nameAt (lent bytes names words) (declarWord (now (words .entry)) r 1))
+        (listAt (lent bytes names words) (declarWord (now (words .entry)) r 2)))) ⌝ }
 {
-    let a = put_word(rows, text, s, declar_word(words, t, r, 0));
-    let b = join_word(rows, text, a, BLANK);
-    let c = pp_declar_info(bytes, names, words, t, rows, text, b, r);
-    let d = put_join(rows, text, c);
-    join_word(rows, text, d, BLANK)
+    let s = put_word(rows, text, s, declar_kind(words, t, r));
+    let s = join_word(rows, text, s, BLANK);
+    let s = pp_declar_info(bytes, names, words, t, rows, text, s, r);
+    let s = put_join(rows, text, s);
+    join_word(rows, text, s, BLANK)
 }
 
 // What is left of a type after its first m binders, after a break.
@@ -155,23 +151,23 @@ fn pp_type(
     bytes: &[u8],
     names: &[u32],
     words: &[u32],
-    t: Tables,
+    p: Printer,
     rows: &mut [u32],
     text: &mut [u8],
     s: Sink,
     k: Stack,
     m: usize,
     r: usize,
-    indent: u32,
 ) -> Sink
-    requires { ⌜ InChain (now bytes) (now names) (now words) t k m m r ⌝ }
-    ensures { λ v. ⌜ state (now (rows .exit)) (now (text .exit)) v ≡ emit (typePart indent (over (now (bytes .entry)) (now (names .entry)) (now (words .entry))) k m (exprAt (over (now (bytes .entry)) (now (names .entry)) (now (words .entry))) r)) (state (now (rows .entry)) (now (text .entry)) s) ⌝ }
+    requires { ⌜ InChain (now bytes) (now names) (now words) (p .tables) k m m r ⌝ }
+    ensures { λ v. ⌜ Leaves rows text s v (emit (typePart (optionsOf p) (lent bytes names words) k m
+        (exprAt (lent bytes names words) r))) ⌝ }
 {
-    let a = put_break(rows, text, s, 1);
-    let b = pp_tail(bytes, names, words, t, rows, text, a, k, m, m, r, 0, indent);
-    let c = put_group(rows, text, b);
-    let d = put_join(rows, text, c);
-    put_nest(rows, text, d, indent)
+    let s = put_break(rows, text, s, 1);
+    let s = pp_tail(bytes, names, words, p, rows, text, s, k, m, m, r, 0);
+    let s = put_group(rows, text, s);
+    let s = put_join(rows, text, s);
+    put_nest(rows, text, s, p.indent)
 }
 
 // A value in the scope of the m binders that it was opened by, after a break.
@@ -179,23 +175,23 @@ fn def_value(
     bytes: &[u8],
     names: &[u32],
     words: &[u32],
-    t: Tables,
+    p: Printer,
     rows: &mut [u32],
     text: &mut [u8],
     s: Sink,
     k: Stack,
     m: usize,
     r: usize,
-    indent: u32,
 ) -> Sink
-    requires { ⌜ Asked (now bytes) (now names) (now words) t k m r ⌝ }
-    ensures { λ v. ⌜ state (now (rows .exit)) (now (text .exit)) v ≡ emit (valuePart indent (over (now (bytes .entry)) (now (names .entry)) (now (words .entry))) k m (exprAt (over (now (bytes .entry)) (now (names .entry)) (now (words .entry))) r)) (state (now (rows .entry)) (now (text .entry)) s) ⌝ }
+    requires { ⌜ Asked (now bytes) (now names) (now words) (p .tables) k m r ⌝ }
+    ensures { λ v. ⌜ Leaves rows text s v (emit (valuePart (optionsOf p) (lent bytes names words) k m
+        (exprAt (lent bytes names words) r))) ⌝ }
 {
-    let a = put_break(rows, text, s, 1);
-    let b = pp_expr(bytes, names, words, t, rows, text, a, k, m, r, 0, indent);
-    let c = put_group(rows, text, b);
-    let d = put_join(rows, text, c);
-    put_nest(rows, text, d, indent)
+    let s = put_break(rows, text, s, 1);
+    let s = pp_expr(bytes, names, words, p, rows, text, s, k, m, r, 0);
+    let s = put_group(rows, text, s);
+    let s = put_join(rows, text, s);
+    put_nest(rows, text, s, p.indent)
 }
 
 // The binders that left a type, and the colon.
@@ -203,26 +199,27 @@ fn def_start(
     bytes: &[u8],
     names: &[u32],
     words: &[u32],
-    t: Tables,
+    p: Printer,
     rows: &mut [u32],
     text: &mut [u8],
     s: Sink,
     k: Stack,
     r: usize,
     count: usize,
-    indent: u32,
 ) -> Sink
-    requires { ⌜ (InChain (now bytes) (now names) (now words) t k 0 0 r) × (count ≤ chainLength (exprAt (over (now bytes) (now names) (now words)) r)) ⌝ }
-    ensures { λ v. ⌜ state (now (rows .exit)) (now (text .exit)) v ≡ defStart indent (over (now (bytes .entry)) (now (names .entry)) (now (words .entry))) k count (exprAt (over (now (bytes .entry)) (now (names .entry)) (now (words .entry))) r) (state (now (rows .entry)) (now (text .entry)) s) ⌝ }
+    requires { ⌜ (InChain (now bytes) (now names) (now words) (p .tables) k 0 0 r)
+        × (count ≤ chainLength (exprAt (given bytes names words) r)) ⌝ }
+    ensures { λ v. ⌜ Leaves rows text s v (defStart (optionsOf p) (lent bytes names words) k count
+        (exprAt (lent bytes names words) r)) ⌝ }
 {
     if count == 0 {
         return put_word(rows, text, s, COLON);
     }
-    let a = telescope(
+    let s = telescope(
         bytes,
         names,
         words,
-        t,
+        p,
         rows,
         text,
         s,
@@ -232,12 +229,11 @@ fn def_start(
         r,
         count,
         true,
-        indent,
     );
-    let b = put_group(rows, text, a);
-    let c = put_nest(rows, text, b, indent);
-    let d = join_word(rows, text, c, BLANK);
-    join_word(rows, text, d, COLON)
+    let s = put_group(rows, text, s);
+    let s = put_nest(rows, text, s, p.indent);
+    let s = join_word(rows, text, s, BLANK);
+    join_word(rows, text, s, COLON)
 }
 
 // The rest of a definition, up to its value: the type at row r without its first binders is at another row.
@@ -245,7 +241,7 @@ fn def_rest(
     bytes: &[u8],
     names: &[u32],
     words: &[u32],
-    t: Tables,
+    p: Printer,
     rows: &mut [u32],
     text: &mut [u8],
     s: Sink,
@@ -253,21 +249,23 @@ fn def_rest(
     r: usize,
     row: usize,
     count: usize,
-    indent: u32,
 ) -> Sink
-    requires { ⌜ (InChain (now bytes) (now names) (now words) t k 0 0 r) × (count ≤ chainLength (exprAt (over (now bytes) (now names) (now words)) r)) ⌝ }
-    requires { ⌜ (InChain (now bytes) (now names) (now words) t k count count row) × (exprAt (over (now bytes) (now names) (now words)) row ≡ dropChain count (exprAt (over (now bytes) (now names) (now words)) r)) ⌝ }
-    ensures { λ v. ⌜ state (now (rows .exit)) (now (text .exit)) v ≡ emit (defPart indent (over (now (bytes .entry)) (now (names .entry)) (now (words .entry))) k count (exprAt (over (now (bytes .entry)) (now (names .entry)) (now (words .entry))) r)) (state (now (rows .entry)) (now (text .entry)) s) ⌝ }
+    requires { ⌜ (InChain (now bytes) (now names) (now words) (p .tables) k 0 0 r)
+        × (count ≤ chainLength (exprAt (given bytes names words) r)) ⌝ }
+    requires { ⌜ (InChain (now bytes) (now names) (now words) (p .tables) k count count row)
+        × (exprAt (given bytes names words) row ≡ dropChain count (exprAt (given bytes names words) r)) ⌝ }
+    ensures { λ v. ⌜ Leaves rows text s v (emit (defPart (optionsOf p) (lent bytes names words) k count
+        (exprAt (lent bytes names words) r))) ⌝ }
 {
-    let a = def_start(bytes, names, words, t, rows, text, s, k, r, count, indent);
-    let b = pp_type(bytes, names, words, t, rows, text, a, k, count, row, indent);
-    let c = put_join(rows, text, b);
-    let d = join_word(rows, text, c, BLANK);
-    let e = join_word(rows, text, d, ASSIGN);
+    let s = def_start(bytes, names, words, p, rows, text, s, k, r, count);
+    let s = pp_type(bytes, names, words, p, rows, text, s, k, count, row);
+    let s = put_join(rows, text, s);
+    let s = join_word(rows, text, s, BLANK);
+    let s = join_word(rows, text, s, ASSIGN);
     if count == 0 {
-        return e;
+        return s;
     }
-    put_group(rows, text, e)
+    put_group(rows, text, s)
 }
 
 // The rest and the value of a definition.
@@ -275,49 +273,27 @@ fn def_parts(
     bytes: &[u8],
     names: &[u32],
     words: &[u32],
-    t: Tables,
+    p: Printer,
     rows: &mut [u32],
     text: &mut [u8],
     s: Sink,
     k: Stack,
     r: usize,
     value: usize,
-    indent: u32,
 ) -> Sink
-    requires { ⌜ (InChain (now bytes) (now names) (now words) t k 0 0 r) × (value < E (now words)) ⌝ }
-    ensures { λ v. ⌜ state (now (rows .exit)) (now (text .exit)) v ≡ defParts indent (over (now (bytes .entry)) (now (names .entry)) (now (words .entry))) k (exprAt (over (now (bytes .entry)) (now (names .entry)) (now (words .entry))) r) (exprAt (over (now (bytes .entry)) (now (names .entry)) (now (words .entry))) value) (state (now (rows .entry)) (now (text .entry)) s) ⌝ }
+    requires { ⌜ (InChain (now bytes) (now names) (now words) (p .tables) k 0 0 r) × (value < E (now words)) ⌝ }
+    ensures { λ v. ⌜ Leaves rows text s v (defParts (optionsOf p) (lent bytes names words) k (exprAt (lent bytes names words) r)
+        (exprAt (lent bytes names words) value)) ⌝ }
 {
+    let t = p.tables;
     let end = taken(bytes, names, words, t, r, value);
-    let a = def_rest(
-        bytes,
-        names,
-        words,
-        t,
-        rows,
-        text,
-        s,
-        k,
-        r,
-        end.row,
-        end.count,
-        indent,
-    );
-    let b = put_join(rows, text, a);
-    let scope = end.count;
-    let c = def_value(
-        bytes,
-        names,
-        words,
-        t,
-        rows,
-        text,
-        b,
-        k,
-        scope,
-        end.value,
-        indent,
-    );
-    put_join(rows, text, c)
+    let row = end.row;
+    let count = end.count;
+    let s = def_rest(bytes, names, words, p, rows, text, s, k, r, row, count);
+    let s = put_join(rows, text, s);
+    let opened = end.value;
+    let s = def_value(bytes, names, words, p, rows, text, s, k, count, opened);
+    put_join(rows, text, s)
 }
 
 // The first binders of a type, and the colon.
@@ -325,26 +301,27 @@ fn axiom_start(
     bytes: &[u8],
     names: &[u32],
     words: &[u32],
-    t: Tables,
+    p: Printer,
     rows: &mut [u32],
     text: &mut [u8],
     s: Sink,
     k: Stack,
     r: usize,
     count: usize,
-    indent: u32,
 ) -> Sink
-    requires { ⌜ (InChain (now bytes) (now names) (now words) t k 0 0 r) × (count ≤ chainLength (exprAt (over (now bytes) (now names) (now words)) r)) ⌝ }
-    ensures { λ v. ⌜ state (now (rows .exit)) (now (text .exit)) v ≡ axiomStart indent (over (now (bytes .entry)) (now (names .entry)) (now (words .entry))) k count (exprAt (over (now (bytes .entry)) (now (names .entry)) (now (words .entry))) r) (state (now (rows .entry)) (now (text .entry)) s) ⌝ }
+    requires { ⌜ (InChain (now bytes) (now names) (now words) (p .tables) k 0 0 r)
+        × (count ≤ chainLength (exprAt (given bytes names words) r)) ⌝ }
+    ensures { λ v. ⌜ Leaves rows text s v (axiomStart (optionsOf p) (lent bytes names words) k count
+        (exprAt (lent bytes names words) r)) ⌝ }
 {
     if count == 0 {
         return put_word(rows, text, s, COLON);
     }
-    let a = telescope(
+    let s = telescope(
         bytes,
         names,
         words,
-        t,
+        p,
         rows,
         text,
         s,
@@ -354,10 +331,9 @@ fn axiom_start(
         r,
         count,
         true,
-        indent,
     );
-    let b = join_word(rows, text, a, BLANK);
-    join_word(rows, text, b, COLON)
+    let s = join_word(rows, text, s, BLANK);
+    join_word(rows, text, s, COLON)
 }
 
 // The rest of another declaration: the type at row r without its first binders is at another row.
@@ -365,7 +341,7 @@ fn axiom_rest(
     bytes: &[u8],
     names: &[u32],
     words: &[u32],
-    t: Tables,
+    p: Printer,
     rows: &mut [u32],
     text: &mut [u8],
     s: Sink,
@@ -373,38 +349,40 @@ fn axiom_rest(
     r: usize,
     row: usize,
     count: usize,
-    indent: u32,
 ) -> Sink
-    requires { ⌜ (InChain (now bytes) (now names) (now words) t k 0 0 r) × (count ≤ chainLength (exprAt (over (now bytes) (now names) (now words)) r)) ⌝ }
-    requires { ⌜ (InChain (now bytes) (now names) (now words) t k count count row) × (exprAt (over (now bytes) (now names) (now words)) row ≡ dropChain count (exprAt (over (now bytes) (now names) (now words)) r)) ⌝ }
-    ensures { λ v. ⌜ state (now (rows .exit)) (now (text .exit)) v ≡ emit (axiomPart indent (over (now (bytes .entry)) (now (names .entry)) (now (words .entry))) k count (exprAt (over (now (bytes .entry)) (now (names .entry)) (now (words .entry))) r)) (state (now (rows .entry)) (now (text .entry)) s) ⌝ }
+    requires { ⌜ (InChain (now bytes) (now names) (now words) (p .tables) k 0 0 r)
+        × (count ≤ chainLength (exprAt (given bytes names words) r)) ⌝ }
+    requires { ⌜ (InChain (now bytes) (now names) (now words) (p .tables) k count count row)
+        × (exprAt (given bytes names words) row ≡ dropChain count (exprAt (given bytes names words) r)) ⌝ }
+    ensures { λ v. ⌜ Leaves rows text s v (emit (axiomPart (optionsOf p) (lent bytes names words) k count
+        (exprAt (lent bytes names words) r))) ⌝ }
 {
-    let a = axiom_start(bytes, names, words, t, rows, text, s, k, r, count, indent);
-    let b = join_line(rows, text, a);
-    let c = pp_tail(
+    let s = axiom_start(bytes, names, words, p, rows, text, s, k, r, count);
+    let s = join_line(rows, text, s);
+    let s = pp_tail(
         bytes,
         names,
         words,
-        t,
+        p,
         rows,
         text,
-        b,
+        s,
         k,
         count,
         count,
         row,
         0,
-        indent,
     );
-    let d = put_group(rows, text, c);
-    let e = put_join(rows, text, d);
-    let f = put_group(rows, text, e);
-    put_nest(rows, text, f, indent)
+    let s = put_group(rows, text, s);
+    let s = put_join(rows, text, s);
+    let s = put_group(rows, text, s);
+    put_nest(rows, text, s, p.indent)
 }
 
 // The stack with the names of the chain at row r alone.
 fn chain_stack(bytes: &[u8], names: &[u32], words: &[u32], t: Tables, r: usize) -> Stack
-    requires { ⌜ (Pooled (now bytes) (now names) (now words) t) × (r < E (now words)) × (chainLength (exprAt (over (now bytes) (now names) (now words)) r) ≤ 1024) ⌝ }
+    requires { ⌜ (Pooled (now bytes) (now names) (now words) t) × (r < E (now words))
+        × (chainLength (exprAt (given bytes names words) r) ≤ 1024) ⌝ }
     ensures { λ v. ⌜ InChain (now (bytes .entry)) (now (names .entry)) (now (words .entry)) t v 0 0 r ⌝ }
 {
     push_chain(bytes, names, words, t, Stack::empty(), 0, r)
@@ -415,25 +393,30 @@ pub fn main_def(
     bytes: &[u8],
     names: &[u32],
     words: &[u32],
-    t: Tables,
+    p: Printer,
     rows: &mut [u32],
     text: &mut [u8],
     s: Sink,
     r: usize,
-    indent: u32,
 ) -> Sink
-    requires { ⌜ (Declared (now bytes) (now names) (now words) t r) × (hasValue (declarWord (now words) r 0) ≡ true) ⌝ }
-    ensures { λ v. ⌜ state (now (rows .exit)) (now (text .exit)) v ≡ emit (mainDef indent (declarWord (now (words .entry)) r 0) (nameAt (over (now (bytes .entry)) (now (names .entry)) (now (words .entry))) (declarWord (now (words .entry)) r 1)) (listAt (over (now (bytes .entry)) (now (names .entry)) (now (words .entry))) (declarWord (now (words .entry)) r 2)) (exprAt (over (now (bytes .entry)) (now (names .entry)) (now (words .entry))) (declarWord (now (words .entry)) r 3)) (exprAt (over (now (bytes .entry)) (now (names .entry)) (now (words .entry))) (declarWord (now (words .entry)) r 4))) (state (now (rows .entry)) (now (text .entry)) s) ⌝ }
+    requires { ⌜ (Declared (now bytes) (now names) (now words) (p .tables) r) × (hasValue (declarWord (now words) r 0) ≡ true) ⌝ }
+    ensures { λ v. ⌜ Leaves rows text s v (emit (mainDef (optionsOf p) (declarWord (now (words .entry)) r 0)
+        (nameAt (lent bytes names words) (declarWord (now (words .entry)) r 1))
+        (listAt (lent bytes names words) (declarWord (now (words .entry)) r 2))
+        (exprAt (lent bytes names words) (declarWord (now (words .entry)) r 3))
+        (exprAt (lent bytes names words) (declarWord (now (words .entry)) r 4)))) ⌝ }
 {
-    let a = pp_declar_head(bytes, names, words, t, rows, text, s, r);
-    let y = declar_word(words, t, r, 3);
-    let b = put_names(rows, text, a, y, chain_length(bytes, names, words, t, y));
-    if b.stop != 0 {
-        return b;
+    let t = p.tables;
+    let s = pp_declar_head(bytes, names, words, t, rows, text, s, r);
+    let type_row = declar_type(words, t, r);
+    let length = chain_length(bytes, names, words, t, type_row);
+    let s = put_names(rows, text, s, type_row, length);
+    if s.stop != 0 {
+        return s;
     }
-    let k = chain_stack(bytes, names, words, t, y);
-    let value = declar_word(words, t, r, 4);
-    def_parts(bytes, names, words, t, rows, text, b, k, y, value, indent)
+    let k = chain_stack(bytes, names, words, t, type_row);
+    let value = declar_value(words, t, r);
+    def_parts(bytes, names, words, p, rows, text, s, k, type_row, value)
 }
 
 // Another declaration.
@@ -441,37 +424,42 @@ pub fn main_axiom(
     bytes: &[u8],
     names: &[u32],
     words: &[u32],
-    t: Tables,
+    p: Printer,
     rows: &mut [u32],
     text: &mut [u8],
     s: Sink,
     r: usize,
-    indent: u32,
 ) -> Sink
-    requires { ⌜ (Declared (now bytes) (now names) (now words) t r) ⌝ }
-    ensures { λ v. ⌜ state (now (rows .exit)) (now (text .exit)) v ≡ emit (mainAxiom indent (declarWord (now (words .entry)) r 0) (nameAt (over (now (bytes .entry)) (now (names .entry)) (now (words .entry))) (declarWord (now (words .entry)) r 1)) (listAt (over (now (bytes .entry)) (now (names .entry)) (now (words .entry))) (declarWord (now (words .entry)) r 2)) (exprAt (over (now (bytes .entry)) (now (names .entry)) (now (words .entry))) (declarWord (now (words .entry)) r 3))) (state (now (rows .entry)) (now (text .entry)) s) ⌝ }
+    requires { ⌜ (Declared (now bytes) (now names) (now words) (p .tables) r) ⌝ }
+    ensures { λ v. ⌜ Leaves rows text s v (emit (mainAxiom (optionsOf p) (declarWord (now (words .entry)) r 0)
+        (nameAt (lent bytes names words) (declarWord (now (words .entry)) r 1))
+        (listAt (lent bytes names words) (declarWord (now (words .entry)) r 2))
+        (exprAt (lent bytes names words) (declarWord (now (words .entry)) r 3)))) ⌝ }
 {
-    let a = pp_declar_head(bytes, names, words, t, rows, text, s, r);
-    let y = declar_word(words, t, r, 3);
-    let b = put_names(rows, text, a, y, chain_length(bytes, names, words, t, y));
-    if b.stop != 0 {
-        return b;
+    let t = p.tables;
+    let s = pp_declar_head(bytes, names, words, t, rows, text, s, r);
+    let type_row = declar_type(words, t, r);
+    let length = chain_length(bytes, names, words, t, type_row);
+    let s = put_names(rows, text, s, type_row, length);
+    if s.stop != 0 {
+        return s;
     }
-    let k = chain_stack(bytes, names, words, t, y);
-    let end = run_end(bytes, names, words, t, y, true);
-    let c = axiom_rest(
+    let k = chain_stack(bytes, names, words, t, type_row);
+    let end = run_end(bytes, names, words, t, type_row, true);
+    let row = end.row;
+    let count = end.count;
+    let s = axiom_rest(
         bytes,
         names,
         words,
-        t,
+        p,
         rows,
         text,
-        b,
+        s,
         k,
-        y,
-        end.row,
-        end.count,
-        indent,
+        type_row,
+        row,
+        count,
     );
-    put_join(rows, text, c)
+    put_join(rows, text, s)
 }

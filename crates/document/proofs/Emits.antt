@@ -9,17 +9,20 @@ use Rattle.document.specs.declared.measures.Measures.{Measures}
 use Rattle.document.specs.Doc.{Doc, text, join, break, nest, group, rowCount, flatSize, firstBreak, hasBreak, textBytes}
 use Rattle.document.specs.Rows.{word, leftOf, measuresAt, joined, wrapped}
 use Rattle.document.specs.Stored.{measures, rowOf, ownRow, stored, Fine}
-use Rattle.document.specs.Walk.{Marked, textᵐ, joinᵐ, breakᵐ, nestᵐ, groupᵐ, names, plain, Event, row, named, Progress, going, stopped, step, steps, textEvents, events, walk}
+use Rattle.document.specs.Walk.{Marked, textᵐ, joinᵐ, breakᵐ, nestᵐ, groupᵐ, names, plain, Event, row, named, Progress, going, stopped, step, steps}
+use Rattle.document.specs.Walk.{textEvents, events, walk}
 use Rattle.document.specs.Sink.{State, rowWords, putRow, putBytes, endText, putText, putBreak, putJoin, putWrapped, putNames, emit, cleared}
 use Rattle.document.specs.Sink.State.{state}
 use Rattle.document.proofs.ReadBack.{stored-length, some-row, own, own-words, Words}
 use Rattle.document.proofs.Sizes.{words-fit}
-use Rattle.document.proofs.Steps.{Stopped, Stays, stays-emit, stays-join, stays-wrapped, stays-after, steps-append, sinkAt, At, areas, Grown, Agree, agree-words, then, row-agrees, names-agree, textWords, text-agrees}
+use Rattle.document.proofs.Steps.{Stopped, Stays, stays-emit, stays-join, stays-wrapped, stays-after, steps-append, sinkAt, At, areas, Grown, Agree, agree-words}
+use Rattle.document.proofs.Steps.{then, row-agrees, names-agree, textWords, text-agrees}
 
 -- ---- the measures of what is written
 
 -- the subtree of the document d, which is written after p rows, ends just before row suc r
-written : (rows : List ℕ) (d : Doc) (t p r : ℕ) (pre rest : List ℕ) → rows ≡ (pre ++ stored t d) ++ rest → length pre ≡ p * 7 → suc r ≡ p + rowCount d → measuresAt rows r ≡ measures d
+written : (rows : List ℕ) (d : Doc) (t p r : ℕ) (pre rest : List ℕ) → rows ≡ (pre ++ stored t d) ++ rest → length pre ≡ p * 7 → suc r ≡ p + rowCount d
+    → measuresAt rows r ≡ measures d
 written rows d t p r pre rest e l s =
     let w : Words rows d r =
     own-words rows d t r (own rows d t p r s (record { pre = pre; post = rest; eq = e ∙ append-assoc pre (stored t d) rest; at = l })) in
@@ -109,7 +112,8 @@ wrap-emits R T pre rest tpre trest r t at es d e kind a st fine me te h =
     (wrapped-agrees R T pre′ rest′ tpre′ trest′ r′ t′ at′ r pre d t refl ra (omega arith) kind a)))
     h))
 
-join-emits : (R T : ℕ) (pre rest tpre trest : List ℕ) (r t : ℕ) → At R T pre rest tpre trest r t → (es fs : List Event) (d e : Doc) (st : State) (f : State → State) → Fine (join d e) → Stays f
+join-emits : (R T : ℕ) (pre rest tpre trest : List ℕ) (r t : ℕ) → At R T pre rest tpre trest r t → (es fs : List Event) (d e : Doc) (st : State)
+    (f : State → State) → Fine (join d e) → Stays f
     → ((pre′ rest′ tpre′ trest′ : List ℕ) (r′ t′ : ℕ) → At R T pre′ rest′ tpre′ trest′ r′ t′
     → Agree R T pre′ rest′ tpre′ trest′ (stored t′ e) (textBytes e) (steps R T (going r′ t′) fs) (f (areas pre′ rest′ tpre′ trest′ r′ t′)))
     → Agree R T pre rest tpre trest (stored t d) (textBytes d) (steps R T (going r t) es) st
@@ -150,7 +154,8 @@ join-emits R T pre rest tpre trest r t at es fs d e st f fine stays k h =
     (then R T pre′ rest′ tpre′ trest′ (stored u e) (textBytes e) own [] (steps R T (going r′ t′) fs) (row ∷ []) putJoin mid stays-join
     (λ r″ t″ at″.
     let ra″ = at″ .rows-at in
-    fit-row R T pre″ rest″ tpre″ trest″ r″ t″ at″ 1 0 0 (join d e) fine (omega arith) (omega arith) (step R T (going r″ t″) row) (putJoin (areas pre″ rest″ tpre″ trest″ r″ t″))
+    fit-row R T pre″ rest″ tpre″ trest″ r″ t″ at″ 1 0 0 (join d e) fine (omega arith) (omega arith) (step R T (going r″ t″) row)
+    (putJoin (areas pre″ rest″ tpre″ trest″ r″ t″))
     (join-agrees R T pre″ rest″ tpre″ trest″ r″ t″ at″ r pre d e t u refl ra (omega arith)))
     (subst (λ (x : ℕ). Agree R T pre′ rest′ tpre′ trest′ (stored x e) (textBytes e) (steps R T (going r′ t′) fs) mid) tu
     (k pre′ rest′ tpre′ trest′ r′ t′ at′))))
@@ -198,7 +203,8 @@ emit-agrees R T (names place count d) fine pre rest tpre trest r t at =
     let b = at′ .text-at in
     let l = length-append tpre [] in
     let tu : t′ ≡ t = omega arith in
-    subst (λ (x : ℕ). Agree R T (pre ++ []) rest (tpre ++ []) trest (stored x (plain d)) (textBytes (plain d)) (steps R T (going r′ t′) (events d)) (emit d (areas (pre ++ []) rest (tpre ++ []) trest r′ t′))) tu
+    subst (λ (x : ℕ). Agree R T (pre ++ []) rest (tpre ++ []) trest (stored x (plain d)) (textBytes (plain d)) (steps R T (going r′ t′) (events d))
+    (emit d (areas (pre ++ []) rest (tpre ++ []) trest r′ t′))) tu
     (emit-agrees R T d fine (pre ++ []) rest (tpre ++ []) trest r′ t′ at′))
     (names-agree R T pre rest tpre trest r t at place count)
 
@@ -222,7 +228,8 @@ pub record Emitted (R T : ℕ) (d : Doc) (r t : ℕ) (st : State) : Type 0 where
   pub text-fits : length (textBytes d) ≤ T
   pub is : st ≡ state (stored 0 d ++ replicate (R - rowCount d * 7) 0) (textBytes d ++ replicate (T - length (textBytes d)) 0) (sinkAt (rowCount d) (length (textBytes d)))
 
-cleared-agrees : (R T : ℕ) (m : Marked) → Fine (plain m) → Agree R T [] (replicate {A = ℕ} R 0) [] (replicate {A = ℕ} T 0) (stored 0 (plain m)) (textBytes (plain m)) (walk R T m) (emit m (cleared R T))
+cleared-agrees : (R T : ℕ) (m : Marked) → Fine (plain m) → Agree R T [] (replicate {A = ℕ} R 0) [] (replicate {A = ℕ} T 0) (stored 0 (plain m))
+    (textBytes (plain m)) (walk R T m) (emit m (cleared R T))
 unfolding walk
 cleared-agrees R T m fine =
     let l = length-replicate {A = ℕ} R 0 in
@@ -253,8 +260,10 @@ emit-of-going-walk R T m fine r t e =
       is =
           g .is
           ∙ ap₂ (λ (x : ℕ) (y : ℕ). state (stored 0 d ++ drop x (replicate {A = ℕ} R 0)) (textBytes d ++ drop (length (textBytes d)) (replicate {A = ℕ} T 0)) (sinkAt y t)) ls rr
-          ∙ ap (λ (x : ℕ). state (stored 0 d ++ drop (rowCount d * 7) (replicate {A = ℕ} R 0)) (textBytes d ++ drop (length (textBytes d)) (replicate {A = ℕ} T 0)) (sinkAt (rowCount d) x)) (sym ta)
-          ∙ ap₂ (λ (x y : List ℕ). state (stored 0 d ++ x) (textBytes d ++ y) (sinkAt (rowCount d) (length (textBytes d)))) (drop-zeros R (rowCount d * 7)) (drop-zeros T (length (textBytes d)));
+          ∙ ap (λ (x : ℕ). state (stored 0 d ++ drop (rowCount d * 7) (replicate {A = ℕ} R 0))
+          (textBytes d ++ drop (length (textBytes d)) (replicate {A = ℕ} T 0)) (sinkAt (rowCount d) x)) (sym ta)
+          ∙ ap₂ (λ (x y : List ℕ). state (stored 0 d ++ x) (textBytes d ++ y) (sinkAt (rowCount d) (length (textBytes d))))
+          (drop-zeros R (rowCount d * 7)) (drop-zeros T (length (textBytes d)));
     }
 
 -- a walk that is refused: the sink has the number and the place

@@ -11,7 +11,7 @@ use lib.ListN.{length}
 use lib.Dec.{leb, ltb, eqb}
 use borrow.Author.Tests.{lt-ltb, le-ltb, ltb-true, ltb-false, leb-true, eqb-true}
 use Rattle.document.specs.Rows.{word, ownText, textBefore, fieldsOk, ruleOk, rowOk, scan, whole, fault, Valid, countsOk, Accepted}
-use Rattle.document.proofs.Booleans.{and-left, and-right}
+use Rattle.basics.proofs.Booleans.{and-left, and-right}
 use Rattle.document.proofs.Words.{kind-rest}
 
 -- ---- the loop of `find_fault`
@@ -84,7 +84,8 @@ pub sound : (rows : List ℕ) (total count : ℕ) → 0 < count → count ≤ fa
 unfolding fault Valid whole
 sound rows total count pos h = go (ltb (scan rows total count 0) count) refl h
   where
-    end : count ≤ scan rows total count 0 → (b : Bool) → eqb (word rows (count - 1) 3) count && eqb (textBefore rows count) total ≡ b → count ≤ cond b count (count - 1) → Sound rows total count
+    end : count ≤ scan rows total count 0 → (b : Bool) → eqb (word rows (count - 1) 3) count && eqb (textBefore rows count) total ≡ b → count ≤ cond b
+        count (count - 1) → Sound rows total count
     end s true e g =
         record {
           valid = λ i p. scan-all rows total count 0 (omega arith) i (omega arith) (omega arith);
@@ -93,7 +94,8 @@ sound rows total count pos h = go (ltb (scan rows total count 0) count) refl h
         }
     end s false e g = absurd (omega arith)
 
-    go : (b : Bool) → ltb (scan rows total count 0) count ≡ b → count ≤ cond b (scan rows total count 0) (cond (eqb (word rows (count - 1) 3) count && eqb (textBefore rows count) total) count (count - 1)) → Sound rows total count
+    go : (b : Bool) → ltb (scan rows total count 0) count ≡ b → count ≤ cond b (scan rows total count 0)
+        (cond (eqb (word rows (count - 1) 3) count && eqb (textBefore rows count) total) count (count - 1)) → Sound rows total count
     go true e g = absurd (let l : scan rows total count 0 < count = ltb-true _ _ e in omega arith)
     go false e g = end (ltb-false _ _ e) (eqb (word rows (count - 1) 3) count && eqb (textBefore rows count) total) refl g
 
@@ -137,7 +139,8 @@ module _ (rows : List ℕ) (total before r kind a b : ℕ) (ek : kind ≡ word r
   pub text-fields : kind ≡ 0 → v ≡ eqb a before && leb (before + b) total → v ≡ fieldsOk rows total before r (word rows r 0)
   text-fields e h = of-kind 0 e (cc)
 
-  pub join-fields : (right size : ℕ) → kind ≡ 1 → right ≡ r - 1 → size ≡ word rows right 3 → x ≡ eqb a 0 && eqb b 0 → v ≡ ltb size r && x → v ≡ fieldsOk rows total before r (word rows r 0)
+  pub join-fields : (right size : ℕ) → kind ≡ 1 → right ≡ r - 1 → size ≡ word rows right 3 → x ≡ eqb a 0 && eqb b 0 → v ≡ ltb size r && x
+      → v ≡ fieldsOk rows total before r (word rows r 0)
   join-fields right size e p q g h = of-kind 1 e (cc)
 
   pub break-fields : kind ≡ 2 → v ≡ ltb a 2 && eqb b 0 → v ≡ fieldsOk rows total before r (word rows r 0)
@@ -146,7 +149,8 @@ module _ (rows : List ℕ) (total before r kind a b : ℕ) (ek : kind ≡ word r
   pub nest-fields : kind ≡ 3 → x ≡ ltb a 65 && eqb b 0 → v ≡ ltb 0 r && x → v ≡ fieldsOk rows total before r (word rows r 0)
   nest-fields e g h = of-kind 3 e (cc)
 
-  pub group-fields : (y : Bool) → (kind ≡ 0 → ⊥) → (kind ≡ 1 → ⊥) → (kind ≡ 2 → ⊥) → (kind ≡ 3 → ⊥) → y ≡ eqb a 0 && eqb b 0 → x ≡ eqb kind 4 && y → v ≡ ltb 0 r && x
+  pub group-fields : (y : Bool) → (kind ≡ 0 → ⊥) → (kind ≡ 1 → ⊥) → (kind ≡ 2 → ⊥) → (kind ≡ 3 → ⊥) → y ≡ eqb a 0 && eqb b 0 → x ≡ eqb kind 4 && y
+      → v ≡ ltb 0 r && x
       → v ≡ fieldsOk rows total before r (word rows r 0)
   group-fields y n0 n1 n2 n3 f g h =
       let k = kind-rest kind n0 n1 n2 n3 in

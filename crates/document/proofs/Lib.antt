@@ -1,4 +1,3 @@
-pub mod Booleans
 pub mod Words
 pub mod Faults
 pub mod Areas

@@ -13,7 +13,7 @@ use borrow.Author.Tests.{lt-ltb, le-ltb, le-leb, eq-eqb, ltb-true, ltb-false}
 use Rattle.document.specs.Doc.{Doc, text, join, break, nest, group, rowCount, flatSize, firstBreak, hasBreak, textBytes, through, either}
 use Rattle.document.specs.Rows.{word, leftOf, node, docAt, measuresAt, derived, ownText, textBefore, ruleOk, rowOk, scan, whole, fault, Accepted}
 use Rattle.document.specs.Stored.{rowOf, ownRow, stored, Fine}
-use Rattle.document.proofs.Booleans.{and-true}
+use Rattle.basics.proofs.Booleans.{and-intro}
 use Rattle.document.proofs.Holds.{Holds, holds-front, holds-to, holds-left, holds-right, holds-at, holds-part}
 use Rattle.document.proofs.Words.{Kept, Same, of-same}
 
@@ -55,7 +55,9 @@ module _ (rows : List ℕ) where
   own (join a b) t p r e h =
       let x = stored-length t a in
       let y = stored-length (t + length (textBytes a)) b in
-      holds-to _ (r * 7) (omega arith) (holds-right (stored (t + length (textBytes a)) b) (ownRow t (join a b)) (holds-right (stored t a) (stored (t + length (textBytes a)) b ++ ownRow t (join a b)) h))
+      holds-to _ (r * 7) (omega arith)
+      (holds-right (stored (t + length (textBytes a)) b) (ownRow t (join a b))
+      (holds-right (stored t a) (stored (t + length (textBytes a)) b ++ ownRow t (join a b)) h))
   own (break k) t p r e h = holds-to (p * 7) (r * 7) (omega arith) h
   own (nest m d) t p r e h = let x = stored-length t d in holds-to _ (r * 7) (omega arith) (holds-right (stored t d) (ownRow t (nest m d)) h)
   own (group d) t p r e h = let x = stored-length t d in holds-to _ (r * 7) (omega arith) (holds-right (stored t d) (ownRow t (group d)) h)
@@ -82,7 +84,9 @@ module _ (rows : List ℕ) where
   unfolding stored
   right-rows a b t p h =
       let x = stored-length t a in
-      holds-to (p * 7 + length (stored t a)) _ (omega arith) (holds-left (stored (t + length (textBytes a)) b) (ownRow t (join a b)) (holds-right (stored t a) (stored (t + length (textBytes a)) b ++ ownRow t (join a b)) h))
+      holds-to (p * 7 + length (stored t a)) _ (omega arith)
+      (holds-left (stored (t + length (textBytes a)) b) (ownRow t (join a b))
+      (holds-right (stored t a) (stored (t + length (textBytes a)) b ++ ownRow t (join a b)) h))
 
   module _ (texts : List ℕ) where
     pub read-back : (d : Doc) (t p r f : ℕ) → suc r ≡ p + rowCount d → Holds rows (p * 7) (stored t d) → Holds texts t (textBytes d) → r < f → docAt rows texts f r ≡ d
@@ -123,7 +127,7 @@ module _ (rows : List ℕ) where
   ok-at : (total r k t : ℕ) → word rows r 0 ≡ k → textBefore rows r ≡ t → Kept rows total t r k → rowOk rows total r ≡ true
   unfolding rowOk
   ok-at total r k t e g m =
-      ap₂ (λ (x y : ℕ). ruleOk rows total x r y) g e ∙ and-true (m .fields) (of-same (measuresAt rows r) (derived rows r k) (m .measures))
+      ap₂ (λ (x y : ℕ). ruleOk rows total x r y) g e ∙ and-intro (m .fields) (of-same (measuresAt rows r) (derived rows r k) (m .measures))
 
   -- n rows from p on keep the rules, and have so many text bytes of their own, with t before them
   record RowsOk (total p n t size : ℕ) : Type 0 where
@@ -176,7 +180,7 @@ module _ (rows : List ℕ) where
       let w1 : word rows p 1 ≡ t = holds-at _ 1 (omega arith) h in
       row-is-ok p 0 (length s) (holds-at _ 0 (omega arith) h) g w2
       (record {
-        fields = and-true (eq-eqb (word rows p 1) t w1) (le-leb (t + word rows p 2) total (omega arith));
+        fields = and-intro (eq-eqb (word rows p 1) t w1) (le-leb (t + word rows p 2) total (omega arith));
         measures = record { count = w .count; flat = w .flat ∙ sym w2; first = w .first ∙ sym w2; has = w .has };
       })
   stored-ok total (join a b) t p y h g z =
@@ -201,12 +205,14 @@ module _ (rows : List ℕ) where
       (rows-ok-to i refl refl
       (row-is-ok r 1 0 (holds-at _ 0 (omega arith) o) (ap (textBefore rows) i ∙ kab .texts) refl
       (record {
-        fields = and-true (lt-ltb (word rows (r - 1) 3) r (omega arith)) (and-true (eq-eqb (word rows r 1) 0 (holds-at _ 1 (omega arith) o)) (eq-eqb (word rows r 2) 0 (holds-at _ 2 (omega arith) o)));
+        fields = and-intro (lt-ltb (word rows (r - 1) 3) r (omega arith))
+            (and-intro (eq-eqb (word rows r 1) 0 (holds-at _ 1 (omega arith) o)) (eq-eqb (word rows r 2) 0 (holds-at _ 2 (omega arith) o)));
         measures =
             record {
               count = w .count ∙ ap₂ (λ (x y : ℕ). 1 + x + y) (sym (wa .count)) (sym cb);
               flat = w .flat ∙ ap₂ _+_ (sym (wa .flat)) (sym (wb .flat));
-              first = w .first ∙ ap₂ (λ (x y : ℕ). through x y (firstBreak b)) (sym (wa .has)) (sym (wa .first)) ∙ ap (through (word rows (leftOf rows r) 6) (word rows (leftOf rows r) 5)) (sym (wb .first));
+              first = w .first ∙ ap₂ (λ (x y : ℕ). through x y (firstBreak b)) (sym (wa .has)) (sym (wa .first))
+                  ∙ ap (through (word rows (leftOf rows r) 6) (word rows (leftOf rows r) 5)) (sym (wb .first));
               has = w .has ∙ ap₂ either (sym (wa .has)) (sym (wb .has));
             };
       }))))
@@ -215,7 +221,7 @@ module _ (rows : List ℕ) where
       let w1 : word rows p 1 ≡ k = holds-at _ 1 (omega arith) h in
       row-is-ok p 2 0 (holds-at _ 0 (omega arith) h) g refl
       (record {
-        fields = and-true (lt-ltb (word rows p 1) 2 (omega arith)) (eq-eqb (word rows p 2) 0 (holds-at _ 2 (omega arith) h));
+        fields = and-intro (lt-ltb (word rows p 1) 2 (omega arith)) (eq-eqb (word rows p 2) 0 (holds-at _ 2 (omega arith) h));
         measures = record { count = w .count; flat = w .flat ∙ sym w1; first = w .first; has = w .has };
       })
   stored-ok total (nest m d) t p y h g z =
@@ -229,7 +235,7 @@ module _ (rows : List ℕ) where
       (rows-ok-append k
       (row-is-ok r 3 0 (holds-at _ 0 (omega arith) o) (k .texts) refl
       (record {
-        fields = and-true (lt-ltb 0 r (omega arith)) (and-true (lt-ltb (word rows r 1) 65 (omega arith)) (eq-eqb (word rows r 2) 0 (holds-at _ 2 (omega arith) o)));
+        fields = and-intro (lt-ltb 0 r (omega arith)) (and-intro (lt-ltb (word rows r 1) 65 (omega arith)) (eq-eqb (word rows r 2) 0 (holds-at _ 2 (omega arith) o)));
         measures = wrapped-same d (nest m d) t p r 0 refl refl refl refl (omega arith) (holds-left _ _ h) (words 3 m 0 (nest m d) r o);
       })))
   stored-ok total (group d) t p y h g z =
@@ -241,7 +247,7 @@ module _ (rows : List ℕ) where
       (rows-ok-append k
       (row-is-ok r 4 0 (holds-at _ 0 (omega arith) o) (k .texts) refl
       (record {
-        fields = and-true (lt-ltb 0 r (omega arith)) (and-true refl (and-true (eq-eqb (word rows r 1) 0 (holds-at _ 1 (omega arith) o)) (eq-eqb (word rows r 2) 0 (holds-at _ 2 (omega arith) o))));
+        fields = and-intro (lt-ltb 0 r (omega arith)) (and-intro refl (and-intro (eq-eqb (word rows r 1) 0 (holds-at _ 1 (omega arith) o)) (eq-eqb (word rows r 2) 0 (holds-at _ 2 (omega arith) o))));
         measures = wrapped-same d (group d) t p r 1 refl refl refl refl (omega arith) (holds-left _ _ h) (words 4 0 0 (group d) r o);
       })))
 
@@ -294,9 +300,9 @@ module _ (d : Doc) (moreRows moreTexts : List ℕ) where
         let o = some-row d in
         record {
           counts =
-              and-true (lt-ltb 0 (rowCount d) (omega arith))
-              (and-true (le-leb (rowCount d) 16384 few)
-              (and-true (le-leb (rowCount d * 7) (length (stored 0 d ++ moreRows)) (omega arith))
-              (and-true (le-leb (length (textBytes d)) (length (textBytes d ++ moreTexts)) (omega arith)) (le-leb (length (textBytes d)) 65536 small))));
+              and-intro (lt-ltb 0 (rowCount d) (omega arith))
+              (and-intro (le-leb (rowCount d) 16384 few)
+              (and-intro (le-leb (rowCount d * 7) (length (stored 0 d ++ moreRows)) (omega arith))
+              (and-intro (le-leb (length (textBytes d)) (length (textBytes d ++ moreTexts)) (omega arith)) (le-leb (length (textBytes d)) 65536 small))));
           faultless = stored-faultless;
         }

@@ -10,8 +10,10 @@ use lib.Dec.{ltb, leb, eqb}
 use borrow.Author.Tests.{ltb-true, leb-true}
 use Rattle.document.specs.declared.measures.Measures.{Measures}
 use Rattle.document.specs.declared.sink.Sink.{Sink}
-use Rattle.document.specs.Walk.{Event, byte, row, named, Progress, going, stopped, step, steps, textEvents, Marked, textᵐ, joinᵐ, breakᵐ, nestᵐ, groupᵐ, names}
-use Rattle.document.specs.Sink.{State, sinkOf, stoppedAt, refuse, rowWords, over, putRow, putByte, putBytes, endText, putText, putBreak, putJoin, putWrapped, putNest, putGroup, putNames, emit}
+use Rattle.document.specs.Walk.{Event, byte, row, named, Progress, going, stopped, step, steps, textEvents, Marked, textᵐ, joinᵐ, breakᵐ, nestᵐ, groupᵐ}
+use Rattle.document.specs.Walk.{names}
+use Rattle.document.specs.Sink.{State, sinkOf, stoppedAt, refuse, rowWords, over, putRow, putByte, putBytes, endText, putText, putBreak, putJoin, putWrapped}
+use Rattle.document.specs.Sink.{putNest, putGroup, putNames, emit}
 use Rattle.document.specs.Sink.State.{state}
 
 -- ---- a stopped sink stays as it is

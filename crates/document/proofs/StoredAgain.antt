@@ -12,7 +12,7 @@ use borrow.Author.Tests.{eqb-true}
 use Rattle.document.specs.Doc.{Doc, join, rowCount, textBytes}
 use Rattle.document.specs.Rows.{word, leftOf, node, docAt, ownText, textBefore, Valid, Accepted}
 use Rattle.document.specs.Stored.{rowOf, ownRow, stored, Fine}
-use Rattle.document.proofs.Booleans.{and-left, and-right}
+use Rattle.basics.proofs.Booleans.{and-left, and-right}
 use Rattle.document.proofs.Faults.{accepted-counts, accepted-sound}
 use Rattle.document.proofs.Holds.{Holds, holds-to, holds-append, holds-take, holds-part}
 use Rattle.document.proofs.Words.{kept, text-within, text-before-within, text-long, join-right, blank-small, nest-amount, has-child, wrapped-count, Sized, sized}
@@ -38,7 +38,8 @@ row-words rows r h =
     (λ k p. let q : k < 7 = omega arith in getD-take 7 (drop (r * 7) rows) k 0 q ∙ getD-drop (r * 7) rows k 0 ∙ sym (seven (word rows r) k q)))
     (holds-take 7 (omega arith))
 
-row-is : (rows : List ℕ) (r kind a b : ℕ) (d : Doc) → r * 7 + 7 ≤ length rows → word rows r 0 ≡ kind → word rows r 1 ≡ a → word rows r 2 ≡ b → word rows r 3 ≡ rowCount d → Sized rows r d
+row-is : (rows : List ℕ) (r kind a b : ℕ) (d : Doc) → r * 7 + 7 ≤ length rows → word rows r 0 ≡ kind → word rows r 1 ≡ a → word rows r 2 ≡ b → word
+    rows r 3 ≡ rowCount d → Sized rows r d
     → Holds rows (r * 7) (rowOf kind a b d)
 row-is rows r kind a b d h e0 e1 e2 e3 s =
     let e4 = s .flat in
@@ -59,7 +60,8 @@ pub record StoredAt (rows texts : List ℕ) (r : ℕ) (d : Doc) : Type 0 where
 
 module _ (rows texts : List ℕ) (total count : ℕ) (valid : Valid rows total count) (size : total ≤ length texts) (long : count * 7 ≤ length rows) where
   -- a nest or a group, over its child
-  wrapped-stored : (r k a : ℕ) (d e : Doc) → r < count → word rows r 0 ≡ suc (suc (suc k)) → word rows r 1 ≡ a → word rows r 2 ≡ 0 → rowCount e ≡ 1 + rowCount d → textBytes e ≡ textBytes d
+  wrapped-stored : (r k a : ℕ) (d e : Doc) → r < count → word rows r 0 ≡ suc (suc (suc k)) → word rows r 1 ≡ a → word rows r 2 ≡ 0 → rowCount
+      e ≡ 1 + rowCount d → textBytes e ≡ textBytes d
       → ((t : ℕ) → stored t e ≡ stored t d ++ rowOf (suc (suc (suc k))) a 0 e) → Fine e → Sized rows r e → StoredAt rows texts (r - 1) d → StoredAt rows texts r e
   unfolding textBefore
   wrapped-stored r k a d e below e0 e1 e2 n b s fine z at =

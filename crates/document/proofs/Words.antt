@@ -12,7 +12,7 @@ use borrow.Author.Tests.{ltb-true, leb-true, eqb-true, eq-eqb}
 use Rattle.document.specs.declared.measures.Measures.{Measures}
 use Rattle.document.specs.Doc.{Doc, flatSize, hasBreak, firstBreak, through, either}
 use Rattle.document.specs.Rows.{word, leftOf, node, docAt, measuresAt, derived, fieldsOk, same, ruleOk, ownText, textBefore, rowOk, Valid}
-use Rattle.document.proofs.Booleans.{and-left, and-right, and-true}
+use Rattle.basics.proofs.Booleans.{and-left, and-right, and-intro}
 
 -- ---- numbers
 
@@ -62,7 +62,7 @@ same-of a b h =
 
 pub of-same : (a b : Measures) → Same a b → same a b ≡ true
 of-same a b s =
-    and-true (eq-eqb _ _ (s .count)) (and-true (eq-eqb _ _ (s .flat)) (and-true (eq-eqb _ _ (s .first)) (eq-eqb _ _ (s .has))))
+    and-intro (eq-eqb _ _ (s .count)) (and-intro (eq-eqb _ _ (s .flat)) (and-intro (eq-eqb _ _ (s .first)) (eq-eqb _ _ (s .has))))
 
 pub record Kept (rows : List ℕ) (total before r kind : ℕ) : Type 0 where
   pub fields : fieldsOk rows total before r kind ≡ true

@@ -4,6 +4,9 @@ use mathlib.Core.Bool.{cond}
 use mathlib.Core.List.{List, [], _∷_, _++_}
 use lib.ListN.{length, take, drop, set, replicate}
 use lib.Dec.{ltb, leb, eqb}
+use mathlib.Core.Path.{_≡_}
+use denote.Ref.{now}
+use Rattle.basics.specs.Lent.{Area}
 use Rattle.document.specs.declared.measures.Measures.{Measures}
 use Rattle.document.specs.declared.sink.Sink.{Sink}
 use Rattle.document.specs.Rows.{leftOf, measuresAt, joined, wrapped}
@@ -121,3 +124,10 @@ start = record { rows = 0; text = 0; stop = 0; place = 0 }
 -- cleared areas of so many words and bytes, nothing written
 abbrev pub cleared : ℕ → ℕ → State
 cleared words bytes = state (replicate words 0) (replicate bytes 0) start
+
+-- ---- what a contract says
+
+-- the row area, the text area and the sink s at entry, the sink v at exit: what f makes of a state
+abbrev pub Leaves : Area → Area → Sink → Sink → (State → State) → Type 0
+Leaves rows text s v f =
+    state (now (rows .exit)) (now (text .exit)) v ≡ f (state (now (rows .entry)) (now (text .entry)) s)

@@ -1,5 +1,5 @@
 // The words of rows, and the measures of a row's subtree: its last four words.
-use crate::numbers::less;
+use basics::numbers::less;
 ghost use mathlib.Core.Path.{_≡_};
 ghost use Prim.Native.Nat.{_+_, _-_, _<_, _≤_};
 ghost use Rattle.document.specs.Doc.{either};

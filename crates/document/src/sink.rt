@@ -5,12 +5,11 @@ use crate::measures::joined;
 use crate::measures::left_of;
 use crate::measures::measures_at;
 use crate::measures::wrapped;
-use crate::numbers::less;
-use crate::numbers::low;
+use basics::numbers::less;
+use basics::numbers::low;
 ghost use mathlib.Core.Path.{_≡_};
 ghost use lib.ListN.{length, replicate};
-ghost use Rattle.document.specs.Sink.{putRow, putByte, putBytes, endText, putText, putBreak, putJoin, putNest, putGroup, putWrapped, putNames};
-ghost use Rattle.document.specs.Sink.State.{state};
+ghost use Rattle.document.specs.Sink.{Leaves, putRow, putByte, putBytes, endText, putText, putBreak, putJoin, putNest, putGroup, putWrapped, putNames};
 
 // The rows and text bytes written so far; the number that stopped the walk, or 0, and its place.
 pub struct Sink {
@@ -46,7 +45,7 @@ impl Sink {
 
 // Number 7, at the place of a chain or a let.
 pub fn refuse(rows: &mut [u32], text: &mut [u8], s: Sink, place: usize) -> Sink
-    ensures { λ v. ⌜ state (now (rows .exit)) (now (text .exit)) v ≡ Rattle.document.specs.Sink.refuse place (state (now (rows .entry)) (now (text .entry)) s) ⌝ }
+    ensures { λ v. ⌜ Leaves rows text s v (Rattle.document.specs.Sink.refuse place) ⌝ }
 {
     if s.stop != 0 {
         return s;
@@ -56,7 +55,7 @@ pub fn refuse(rows: &mut [u32], text: &mut [u8], s: Sink, place: usize) -> Sink
 
 // The names of a chain or a let come into force, `count` of them in all.
 pub fn put_names(rows: &mut [u32], text: &mut [u8], s: Sink, place: usize, count: usize) -> Sink
-    ensures { λ v. ⌜ state (now (rows .exit)) (now (text .exit)) v ≡ putNames place count (state (now (rows .entry)) (now (text .entry)) s) ⌝ }
+    ensures { λ v. ⌜ Leaves rows text s v (putNames place count) ⌝ }
 {
     if count <= 1024 {
         return s;
@@ -74,7 +73,7 @@ fn put_row(
     b: u32,
     m: Measures,
 ) -> Sink
-    ensures { λ v. ⌜ state (now (rows .exit)) (now (text .exit)) v ≡ putRow kind a b m (state (now (rows .entry)) (now (text .entry)) s) ⌝ }
+    ensures { λ v. ⌜ Leaves rows text s v (putRow kind a b m) ⌝ }
 {
     if s.stop != 0 {
         return s;
@@ -108,7 +107,7 @@ fn put_row(
 
 // One text byte. Number 8 is tested before 21.
 pub fn put_byte(rows: &mut [u32], text: &mut [u8], s: Sink, b: u8) -> Sink
-    ensures { λ v. ⌜ state (now (rows .exit)) (now (text .exit)) v ≡ putByte b (state (now (rows .entry)) (now (text .entry)) s) ⌝ }
+    ensures { λ v. ⌜ Leaves rows text s v (putByte b) ⌝ }
 {
     if s.stop != 0 {
         return s;
@@ -131,7 +130,7 @@ pub fn put_byte(rows: &mut [u32], text: &mut [u8], s: Sink, b: u8) -> Sink
 
 // Text bytes without their row: a text may be written in pieces, and `end_text` writes its row.
 pub fn put_bytes(rows: &mut [u32], text: &mut [u8], s: Sink, bytes: &[u8]) -> Sink
-    ensures { λ v. ⌜ state (now (rows .exit)) (now (text .exit)) v ≡ putBytes (now (bytes .entry)) (state (now (rows .entry)) (now (text .entry)) s) ⌝ }
+    ensures { λ v. ⌜ Leaves rows text s v (putBytes (now (bytes .entry))) ⌝ }
 {
     let mut o = s;
     let mut i = 0;
@@ -144,7 +143,7 @@ pub fn put_bytes(rows: &mut [u32], text: &mut [u8], s: Sink, bytes: &[u8]) -> Si
 
 // The row of the text whose bytes were written from `from` on.
 pub fn end_text(rows: &mut [u32], text: &mut [u8], s: Sink, from: usize) -> Sink
-    ensures { λ v. ⌜ state (now (rows .exit)) (now (text .exit)) v ≡ endText from (state (now (rows .entry)) (now (text .entry)) s) ⌝ }
+    ensures { λ v. ⌜ Leaves rows text s v (endText from) ⌝ }
 {
     let size = less(s.text, from);
     let m = Measures {
@@ -157,7 +156,7 @@ pub fn end_text(rows: &mut [u32], text: &mut [u8], s: Sink, from: usize) -> Sink
 }
 
 pub fn put_text(rows: &mut [u32], text: &mut [u8], s: Sink, bytes: &[u8]) -> Sink
-    ensures { λ v. ⌜ state (now (rows .exit)) (now (text .exit)) v ≡ putText (now (bytes .entry)) (state (now (rows .entry)) (now (text .entry)) s) ⌝ }
+    ensures { λ v. ⌜ Leaves rows text s v (putText (now (bytes .entry))) ⌝ }
 {
     let from = s.text;
     let o = put_bytes(rows, text, s, bytes);
@@ -165,7 +164,7 @@ pub fn put_text(rows: &mut [u32], text: &mut [u8], s: Sink, bytes: &[u8]) -> Sin
 }
 
 pub fn put_break(rows: &mut [u32], text: &mut [u8], s: Sink, blank: u32) -> Sink
-    ensures { λ v. ⌜ state (now (rows .exit)) (now (text .exit)) v ≡ putBreak blank (state (now (rows .entry)) (now (text .entry)) s) ⌝ }
+    ensures { λ v. ⌜ Leaves rows text s v (putBreak blank) ⌝ }
 {
     let m = Measures {
         count: 1,
@@ -178,7 +177,7 @@ pub fn put_break(rows: &mut [u32], text: &mut [u8], s: Sink, blank: u32) -> Sink
 
 // Joins the two subtrees written last.
 pub fn put_join(rows: &mut [u32], text: &mut [u8], s: Sink) -> Sink
-    ensures { λ v. ⌜ state (now (rows .exit)) (now (text .exit)) v ≡ putJoin (state (now (rows .entry)) (now (text .entry)) s) ⌝ }
+    ensures { λ v. ⌜ Leaves rows text s v putJoin ⌝ }
 {
     let written = s.rows;
     let left = measures_at(rows, left_of(rows, written));
@@ -189,20 +188,20 @@ pub fn put_join(rows: &mut [u32], text: &mut [u8], s: Sink) -> Sink
 
 // Puts a row of a kind over the subtree written last.
 fn put_wrapped(rows: &mut [u32], text: &mut [u8], s: Sink, kind: u32, a: u32) -> Sink
-    ensures { λ v. ⌜ state (now (rows .exit)) (now (text .exit)) v ≡ putWrapped kind a (state (now (rows .entry)) (now (text .entry)) s) ⌝ }
+    ensures { λ v. ⌜ Leaves rows text s v (putWrapped kind a) ⌝ }
 {
     let m = wrapped(measures_at(rows, less(s.rows, 1)));
     put_row(rows, text, s, kind, a, 0, m)
 }
 
 pub fn put_nest(rows: &mut [u32], text: &mut [u8], s: Sink, amount: u32) -> Sink
-    ensures { λ v. ⌜ state (now (rows .exit)) (now (text .exit)) v ≡ putNest amount (state (now (rows .entry)) (now (text .entry)) s) ⌝ }
+    ensures { λ v. ⌜ Leaves rows text s v (putNest amount) ⌝ }
 {
     put_wrapped(rows, text, s, 3, amount)
 }
 
 pub fn put_group(rows: &mut [u32], text: &mut [u8], s: Sink) -> Sink
-    ensures { λ v. ⌜ state (now (rows .exit)) (now (text .exit)) v ≡ putGroup (state (now (rows .entry)) (now (text .entry)) s) ⌝ }
+    ensures { λ v. ⌜ Leaves rows text s v putGroup ⌝ }
 {
     put_wrapped(rows, text, s, 4, 0)
 }
@@ -229,7 +228,8 @@ fn clear_bytes(area: &mut [u8])
 
 // Both areas to zero: before a print, and after a refusal of one.
 pub fn clear(rows: &mut [u32], text: &mut [u8])
-    ensures { λ _. ⌜ (now (rows .exit) ≡ replicate (length (now (rows .entry))) 0) × (now (text .exit) ≡ replicate (length (now (text .entry))) 0) ⌝ }
+    ensures { λ _. ⌜ (now (rows .exit) ≡ replicate (length (now (rows .entry))) 0)
+        × (now (text .exit) ≡ replicate (length (now (text .entry))) 0) ⌝ }
 {
     clear_words(rows);
     clear_bytes(text);

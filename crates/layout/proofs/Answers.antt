@@ -13,12 +13,13 @@ use borrow.Author.Tests.{lt-ltb, le-ltb}
 use Rattle.document.specs.Rows.{fault, countsOk, Accepted}
 use Rattle.document.proofs.Faults.{fault-bound, accepted-counts, accepted-sound}
 use Rattle.layout.specs.declared.cursor.Cursor.{Cursor}
+use Rattle.layout.specs.declared.Counts.{Counts}
 use Rattle.layout.specs.declared.Laid.{Laid}
 use Rattle.layout.specs.declared.Laid.the-variants.{Done, Document, Width, Listing}
 use Rattle.layout.specs.Layout.{Piece, textᵖ, blankᵖ, newlineᵖ, testᵖ, after, run, start, pieces}
 use Rattle.layout.specs.Listing.{bytesOf, countOf, lines, longestRow, testsIn}
 use Rattle.layout.specs.Paint.{paint}
-use Rattle.layout.specs.Call.{untouched, listed, docOf, outcome}
+use Rattle.layout.specs.Call.{countsOf, untouched, listed, docOf, outcome}
 use Rattle.layout.specs.Contract.{Emitteds, Room, LaidOut}
 use Rattle.layout.proofs.Pieces.{run-position}
 
@@ -75,7 +76,7 @@ run-longest w c n (newlineᵖ b k ∷ ps) e h =
 run-longest w c n (testᵖ b ∷ ps) e h = run-longest w (after w c (testᵖ b)) n ps e h
 
 -- the part of the area that was written
-written : (l s : List ℕ) → length s ≤ length l → take (length s) (paint l 0 s) ≡ s
+pub written : (l s : List ℕ) → length s ≤ length l → take (length s) (paint l 0 s) ≡ s
 unfolding paint
 written [] [] h = refl
 written [] (y ∷ s) h = absurd (omega arith)
@@ -83,6 +84,11 @@ written (x ∷ l) [] h = refl
 written (x ∷ l) (y ∷ s) h = ap (λ (t : List ℕ). y ∷ t) (written l s (omega arith))
 
 -- ---- `layout_accepted`
+
+-- the counts as the code has them: from the last cursor, and m lines
+abbrev pub counted : ℕ → ℕ → Cursor → ℕ → Counts
+counted count total v m =
+    record { rows = count; text = total; length = v .position; lines = m; longest = v .longest; tests = v .tests }
 
 module _ (rows : List ℕ) (count : ℕ) (texts : List ℕ) (total width : ℕ) (accepted : Accepted rows count texts total) (narrow : width ≤ 65535) where
   pub whole-room : Room rows texts (count - 1) width 0 0 (start width)
@@ -116,7 +122,7 @@ module _ (rows : List ℕ) (count : ℕ) (texts : List ℕ) (total width : ℕ) 
     position-is = ap (λ (x : Cursor). x .position) (emitted .cursor) ∙ run-position width (start width) ps ∙ zero-add (length (bytesOf ps))
 
     abbrev full : Laid
-    full = Done count total (length (bytesOf ps)) (lines (bytesOf ps)) (longestRow 0 ps) (testsIn ps)
+    full = Done (countsOf count total ps)
 
     answer-is : (a : Laid) → a ≡ cond (ltb (length l) (length (bytesOf ps))) Listing full → record { answer = a; listing = l′ } ≡ listed count total ps l
     unfolding listed
@@ -129,7 +135,7 @@ module _ (rows : List ℕ) (count : ℕ) (texts : List ℕ) (total width : ℕ) 
         answer-is Listing (ap (λ (b : Bool). cond b Listing full) (sym (lt-ltb (length l) (length (bytesOf ps)) s)))
 
     pub answer-done : (n m : ℕ) → v .position ≤ length l → n ≡ countOf 10 (take (v .position) l′) → m ≡ n + 1
-        → record { answer = Done count total (v .position) m (v .longest) (v .tests); listing = l′ } ≡ listed count total ps l
+        → record { answer = Done (counted count total v m); listing = l′ } ≡ listed count total ps l
     answer-done n m h e f =
         let a = position-is in
         let s : length (bytesOf ps) ≤ length l = omega arith in
@@ -138,7 +144,7 @@ module _ (rows : List ℕ) (count : ℕ) (texts : List ℕ) (total width : ℕ) 
         ap (λ (x : Cursor). x .longest) (emitted .cursor) ∙ run-longest width (start width) 0 ps (omega arith) (omega arith) ∙ omega arith in
         let t : v .tests ≡ testsIn ps = ap (λ (x : Cursor). x .tests) (emitted .cursor) ∙ run-tests width (start width) ps ∙ zero-add (testsIn ps) in
         let g : m ≡ lines (bytesOf ps) = f ∙ ap (λ (x : ℕ). x + 1) (e ∙ ap (countOf 10) b) in
-        let d : Done count total (v .position) m (v .longest) (v .tests) ≡ full = cc in
+        let d : Done (counted count total v m) ≡ full = rw (a, g, o, t) in
         answer-is _ (d ∙ ap (λ (b : Bool). cond b Listing full) (sym (le-ltb (length l) (length (bytesOf ps)) s)))
 
 -- ---- `layout`

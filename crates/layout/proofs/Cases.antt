@@ -4,14 +4,14 @@ use native.Mathlib.Omega.{arith}
 use mathlib.Core.Bool.{Bool, true, false}
 use mathlib.Core.List.{List, [], _∷_}
 use mathlib.Core.Path.{_≡_, refl, sym, ap, ap₂, _∙_, subst}
-use lib.ListN.{length, take, drop, length-take}
+use lib.ListN.{take, drop, length-take}
 use lib.Dec.{leb}
 use Rattle.document.specs.Doc.{Doc, group, hasBreak, firstBreak, through}
 use Rattle.document.specs.Rows.{word, leftOf, node, docAt, Valid}
 use Rattle.document.proofs.Words.{kept, text-within, join-right, join-count, blank-small, nest-amount, has-child, wrapped-count, sized}
 use Rattle.layout.specs.declared.cursor.Cursor.{Cursor}
 use Rattle.layout.specs.Layout.{Piece, textᵖ, blankᵖ, newlineᵖ, testᵖ, placed, after, run, fits, layout}
-use Rattle.layout.specs.Contract.{Steady, Emitted, Emitteds, Room, LaidOut}
+use Rattle.layout.specs.Contract.{TextRoom, BreakRoom, textOf, Steady, Emitted, Emitteds, Room, LaidOut}
 use Rattle.layout.proofs.Pieces.{emitted-one, emitted-append, emitted-test}
 
 -- what holds of the node of row r holds of its document
@@ -31,7 +31,8 @@ pub place-broken : (w k n : ℕ) (flat : Bool) (c v : Cursor) (l l′ : List ℕ
 place-broken w k n flat c v l l′ e a =
     subst (λ (b : Bool). Emitted w (placed b k n) c v l l′) (sym e) (record { cursor = a .cursor; bytes = a .bytes })
 
-pub text-part : (w i k x y : ℕ) (texts : List ℕ) (c v : Cursor) (l l′ : List ℕ) → i ≡ x → k ≡ y → Emitted w (textᵖ (take (i + k - i) (drop i texts))) c v l l′ → Emitted w (textᵖ (take y (drop x texts))) c v l l′
+pub text-part : (w i k x y : ℕ) (texts : List ℕ) (c v : Cursor) (l l′ : List ℕ) → i ≡ x → k ≡ y
+    → Emitted w (textᵖ (take (i + k - i) (drop i texts))) c v l l′ → Emitted w (textᵖ (take y (drop x texts))) c v l l′
 text-part w i k x y texts c v l l′ p q a =
     let d : i + k - i ≡ k = omega arith in
     subst (λ (s : List ℕ). Emitted w (textᵖ s) c v l l′) (ap₂ (λ (a b : ℕ). take a (drop b texts)) (d ∙ q) p) a
@@ -46,7 +47,8 @@ module _ {rows texts : List ℕ} {r w n next : ℕ} {c : Cursor} (room : Room ro
   abbrev valid : Valid rows (room .total) (room .count)
   valid = room .given .valid
 
-  laid-piece : (flat : Bool) (p : Piece) (v : Cursor) (l l′ : List ℕ) → Emitted w p c v l l′ → Steady w (after w c p) → after w c p .position ≤ c .position + 8589934592 → after w c p .tests ≡ c .tests
+  laid-piece : (flat : Bool) (p : Piece) (v : Cursor) (l l′ : List ℕ) → Emitted w p c v l l′ → Steady w (after w c p) → after w c
+      p .position ≤ c .position + 8589934592 → after w c p .tests ≡ c .tests
       → word rows r 3 ≡ 1 → ((f : ℕ) → r < f → layout w (docAt rows texts f r) n flat next c ≡ p ∷ []) → LaidOut rows texts r w n flat next c v l l′
   laid-piece flat p v l l′ a s b t o g =
       let at = ap (λ (x : Cursor). x .position) (a .cursor) in
@@ -64,19 +66,19 @@ module _ {rows texts : List ℕ} {r w n next : ℕ} {c : Cursor} (room : Room ro
   text-small : word rows r 0 ≡ 0 → word rows r 2 ≤ 65536
   text-small e = let t = text-within rows total count valid r (room .below) e in let s = room .given .small in omega arith
 
-  pub text-asks : word rows r 0 ≡ 0 → Steady w c × (word rows r 1 + word rows r 2 ≤ length texts) × (c .position + word rows r 2 + w < 18446744073709551616)
+  pub text-asks : word rows r 0 ≡ 0 → TextRoom rows texts r w c
   text-asks e =
       let t = text-within rows total count valid r (room .below) e in
       let s = room .given .size in
       let z = text-small e in
       let p = room .position-room in
       let q = room .given .narrow in
-      (room .steady, omega arith, omega arith)
+      record { steady = room .steady; inside = omega arith; room = omega arith }
 
-  pub laid-text : (flat : Bool) (v : Cursor) (l l′ : List ℕ) → word rows r 0 ≡ 0 → Emitted w (textᵖ (take (word rows r 2) (drop (word rows r 1) texts))) c v l l′ → LaidOut rows texts r w n flat next c v l l′
+  pub laid-text : (flat : Bool) (v : Cursor) (l l′ : List ℕ) → word rows r 0 ≡ 0 → Emitted w (textᵖ (textOf rows texts r)) c v l l′ → LaidOut rows texts r w n flat next c v l l′
   unfolding node layout
   laid-text flat v l l′ e a =
-      let s : List ℕ = take (word rows r 2) (drop (word rows r 1) texts) in
+      let s : List ℕ = textOf rows texts r in
       let st = room .steady in
       let z = text-small e in
       let t = length-take (word rows r 2) (drop (word rows r 1) texts) in
@@ -85,13 +87,13 @@ module _ {rows texts : List ℕ} {r w n next : ℕ} {c : Cursor} (room : Room ro
 
   -- ---- breaks
 
-  pub break-asks : word rows r 0 ≡ 2 → Steady w c × (c .position + word rows r 1 + w < 18446744073709551616) × (c .position + 1 + n + w < 18446744073709551616)
+  pub break-asks : word rows r 0 ≡ 2 → BreakRoom rows r w n c
   break-asks e =
       let z = blank-small rows total count valid r (room .below) e in
       let p = room .position-room in
       let q = room .nest-room in
       let o = room .given .narrow in
-      (room .steady, omega arith, omega arith)
+      record { steady = room .steady; blank = omega arith; newline = omega arith }
 
   pub laid-break : (flat : Bool) (v : Cursor) (l l′ : List ℕ) → word rows r 0 ≡ 2 → Emitted w (placed flat (word rows r 1) n) c v l l′ → LaidOut rows texts r w n flat next c v l l′
   unfolding node layout
@@ -122,7 +124,17 @@ module _ {rows texts : List ℕ} {r w n next : ℕ} {c : Cursor} (room : Room ro
       let q = room .nest-room in
       let u = room .next-room in
       let t = room .test-room in
-      record { total = total; count = count; given = room .given; below = omega arith; steady = room .steady; position-room = omega arith; nest-room = omega arith; next-room = omega arith; test-room = omega arith }
+      record {
+        total = total;
+        count = count;
+        given = room .given;
+        below = omega arith;
+        steady = room .steady;
+        position-room = omega arith;
+        nest-room = omega arith;
+        next-room = omega arith;
+        test-room = omega arith;
+      }
 
   pub room-left : (i past : ℕ) → word rows r 0 ≡ 1 → i ≡ leftOf rows r → past < next + 4294967296 → Room rows texts i w n past c
   room-left i past e q p = subst (λ (x : ℕ). Room rows texts x w n past c) (sym q) (room-left₀ past e p)
@@ -138,7 +150,17 @@ module _ {rows texts : List ℕ} {r w n next : ℕ} {c : Cursor} (room : Room ro
       let t = room .test-room in
       let pb = a .position-bound in
       let tb = a .test-bound in
-      record { total = total; count = count; given = room .given; below = omega arith; steady = a .steady; position-room = omega arith; nest-room = omega arith; next-room = omega arith; test-room = omega arith }
+      record {
+        total = total;
+        count = count;
+        given = room .given;
+        below = omega arith;
+        steady = a .steady;
+        position-room = omega arith;
+        nest-room = omega arith;
+        next-room = omega arith;
+        test-room = omega arith;
+      }
 
   pub laid-join : (flat : Bool) (past : ℕ) (m v : Cursor) (l k l′ : List ℕ) → word rows r 0 ≡ 1 → past ≡ through (word rows (r - 1) 6) (word rows (r - 1) 5) next
       → LaidOut rows texts (leftOf rows r) w n flat past c m l k → LaidOut rows texts (r - 1) w n flat next m v k l′ → LaidOut rows texts r w n flat next c v l l′
@@ -175,7 +197,8 @@ module _ {rows texts : List ℕ} {r w n next : ℕ} {c : Cursor} (room : Room ro
     pub child-below : 0 < r
     child-below = has-child rows total count valid r (room .below) kind e
 
-    room-under : (n′ : ℕ) (c′ : Cursor) → n′ ≤ n + 64 → c′ .position ≡ c .position → c′ .end ≡ c .end → c′ .tests ≤ c .tests + 1 → Room rows texts (r - 1) w n′ next c′
+    room-under : (n′ : ℕ) (c′ : Cursor) → n′ ≤ n + 64 → c′ .position ≡ c .position → c′ .end ≡ c .end → c′ .tests ≤ c .tests + 1 → Room rows texts
+        (r - 1) w n′ next c′
     room-under n′ c′ hn hp he ht =
         let o = child-below in
         let k = wrapped-count rows total count valid r (room .below) kind e in
@@ -185,10 +208,21 @@ module _ {rows texts : List ℕ} {r w n next : ℕ} {c : Cursor} (room : Room ro
         let q = room .nest-room in
         let u = room .next-room in
         let t = room .test-room in
-        record { total = total; count = count; given = room .given; below = omega arith; steady = omega arith; position-room = omega arith; nest-room = omega arith; next-room = omega arith; test-room = omega arith }
+        record {
+          total = total;
+          count = count;
+          given = room .given;
+          below = omega arith;
+          steady = omega arith;
+          position-room = omega arith;
+          nest-room = omega arith;
+          next-room = omega arith;
+          test-room = omega arith;
+        }
 
     laid-under : (n′ : ℕ) (flat flat′ : Bool) (c′ v : Cursor) (l l′ : List ℕ) → c′ .position ≡ c .position → c′ .tests ≤ c .tests + 1
-        → ((f : ℕ) → r < suc f → Emitteds w (layout w (docAt rows texts f (r - 1)) n′ flat′ next c′) c′ v l l′ → Emitteds w (layout w (node rows texts (docAt rows texts f) r (suc (suc (suc kind)))) n flat next c) c v l l′)
+        → ((f : ℕ) → r < suc f → Emitteds w (layout w (docAt rows texts f (r - 1)) n′ flat′ next c′) c′ v l l′
+        → Emitteds w (layout w (node rows texts (docAt rows texts f) r (suc (suc (suc kind)))) n flat next c) c v l l′)
         → LaidOut rows texts (r - 1) w n′ flat′ next c′ v l l′ → LaidOut rows texts r w n flat next c v l l′
     laid-under n′ flat flat′ c′ v l l′ hp ht g a =
         let o = child-below in
@@ -207,7 +241,8 @@ module _ {rows texts : List ℕ} {r w n next : ℕ} {c : Cursor} (room : Room ro
   pub room-nest : (i : ℕ) → word rows r 0 ≡ 3 → i ≡ word rows r 1 → Room rows texts (r - 1) w (n + i) next c
   room-nest i e q = let m = nest-amount rows total count valid r (room .below) e in room-under 0 e (n + i) c (omega arith) refl refl (omega arith)
 
-  pub laid-nest : (flat : Bool) (i : ℕ) (v : Cursor) (l l′ : List ℕ) → word rows r 0 ≡ 3 → i ≡ word rows r 1 → LaidOut rows texts (r - 1) w (n + i) flat next c v l l′ → LaidOut rows texts r w n flat next c v l l′
+  pub laid-nest : (flat : Bool) (i : ℕ) (v : Cursor) (l l′ : List ℕ) → word rows r 0 ≡ 3 → i ≡ word rows r 1
+      → LaidOut rows texts (r - 1) w (n + i) flat next c v l l′ → LaidOut rows texts r w n flat next c v l l′
   unfolding node layout
   laid-nest flat i v l l′ e q a =
       laid-under 0 e (n + word rows r 1) flat flat c v l l′ refl (omega arith) (λ f h x. x)

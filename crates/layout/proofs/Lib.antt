@@ -3,5 +3,4 @@ pub mod Pieces
 pub mod Cases
 pub mod Going
 pub mod Answers
-pub mod ThirdProperty
 mod Specimen

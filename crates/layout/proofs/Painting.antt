@@ -63,7 +63,8 @@ paint-append (x ∷ l) zero (y ∷ s) t =
     ∙ ap (λ (r : List ℕ). y ∷ r) (ap (λ (n : ℕ). paint (paint l zero s) n t) (sym (zero-add (length s))) ∙ paint-append l zero s t)
 
 -- a turn of a loop that copies, and its two ends
-pub copy-turn : (d₀ s d : List ℕ) (i : ℕ) → d ≡ paint d₀ 0 (take i s) → length d ≡ length d₀ → i < length d → i < length s → set d i (getD s i 0) ≡ paint d₀ 0 (take (i + 1) s)
+pub copy-turn : (d₀ s d : List ℕ) (i : ℕ) → d ≡ paint d₀ 0 (take i s) → length d ≡ length d₀ → i < length d → i < length s → set d i
+    (getD s i 0) ≡ paint d₀ 0 (take (i + 1) s)
 copy-turn d₀ s d i e n p q = rw (e, add-one) (paint-step d₀ s i (omega arith) q)
 
 pub copy-full : (d₀ s d : List ℕ) (i : ℕ) → d ≡ paint d₀ 0 (take i s) → length d ≡ length d₀ → length d ≤ i → d ≡ paint d₀ 0 s
@@ -72,7 +73,8 @@ copy-full d₀ s d i e n p = e ∙ paint-full d₀ s i (omega arith)
 pub copy-whole : (d₀ s d : List ℕ) (i : ℕ) → d ≡ paint d₀ 0 (take i s) → length s ≤ i → d ≡ paint d₀ 0 s
 copy-whole d₀ s d i e p = e ∙ ap (paint d₀ 0) (take-all i s p)
 
-pub fill-turn : (d₀ d : List ℕ) (n b i : ℕ) → d ≡ paint d₀ 0 (take i (replicate n b)) → length d ≡ length d₀ → i < length d → i < n → set d i b ≡ paint d₀ 0 (take (i + 1) (replicate n b))
+pub fill-turn : (d₀ d : List ℕ) (n b i : ℕ) → d ≡ paint d₀ 0 (take i (replicate n b)) → length d ≡ length d₀ → i < length d → i < n → set d i
+    b ≡ paint d₀ 0 (take (i + 1) (replicate n b))
 fill-turn d₀ d n b i e h p q =
     ap (set d i) (sym (getD-replicate n i b 0 q)) ∙ copy-turn d₀ (replicate n b) d i e h p (rw length-replicate q)
 

@@ -26,6 +26,10 @@ abbrev area : List ℕ
 area = 0 ∷ 0 ∷ 0 ∷ 0 ∷ 0 ∷ 0 ∷ 0 ∷ 0 ∷ 0 ∷ 0 ∷ 0 ∷ 0 ∷ 0 ∷ 9 ∷ []
 
 two-rows : outcome (stored 0 arrow) 17 (textBytes arrow) 12 12 area
-    ≡ record { answer = Done 17 12 13 2 8 3; listing = 64 ∷ 78 ∷ 97 ∷ 116 ∷ 32 ∷ 226 ∷ 134 ∷ 146 ∷ 10 ∷ 64 ∷ 78 ∷ 97 ∷ 116 ∷ 9 ∷ [] }
-unfolding arrow nat bytesOf pieces layout run flatSize firstBreak hasBreak rowCount stored ownRow textBytes outcome listed untouched docAt node fault scan whole rowOk textBefore longestRow testsIn countOf paint
+    ≡ record {
+      answer = Done (record { rows = 17; text = 12; length = 13; lines = 2; longest = 8; tests = 3 });
+      listing = 64 ∷ 78 ∷ 97 ∷ 116 ∷ 32 ∷ 226 ∷ 134 ∷ 146 ∷ 10 ∷ 64 ∷ 78 ∷ 97 ∷ 116 ∷ 9 ∷ [];
+    }
+unfolding arrow nat bytesOf pieces layout run flatSize firstBreak hasBreak rowCount stored ownRow textBytes outcome listed untouched docAt node fault scan whole rowOk
+    textBefore longestRow testsIn countOf paint
 two-rows = refl

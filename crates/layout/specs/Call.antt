@@ -6,6 +6,7 @@ use lib.ListN.{length}
 use lib.Dec.{ltb}
 use Rattle.document.specs.Doc.{Doc}
 use Rattle.document.specs.Rows.{docAt, fault, countsOk}
+use Rattle.layout.specs.declared.Counts.{Counts}
 use Rattle.layout.specs.declared.Laid.{Laid}
 use Rattle.layout.specs.declared.Laid.the-variants.{Done, Document, Width, Listing}
 use Rattle.layout.specs.Layout.{Piece, pieces}
@@ -15,14 +16,14 @@ use Rattle.layout.specs.Paint.{paint}
 -- the number of an answer, 0 for none: "9: a given document breaks a row rule, ..", "6: .. width over 65,535", "22: listing longer than
 -- its area"
 abbrev pub number : Laid → ℕ
-number (Done rows text length lines longest tests) = 0
+number (Done counts) = 0
 number (Document row) = 9
 number Width = 6
 number Listing = 22
 
 -- "place: for .. 9 the first faulty row in its table (0 for counts), .. else 0"
 abbrev pub place : Laid → ℕ
-place (Done rows text length lines longest tests) = 0
+place (Done counts) = 0
 place (Document row) = row
 place Width = 0
 place Listing = 0
@@ -36,14 +37,24 @@ pub record Outcome : Type 0 where
 unfoldable pub untouched : Laid → List ℕ → Outcome
 untouched answer area = record { answer = answer; listing = area }
 
--- "layout report[s] document rows, text bytes, listing length, lines .., longest row, and fit tests"; "22 leaves .. in the listing area
--- the first bytes of the full listing, as many as fit"; "no refusal or success touches the listing area past what was written"
+-- "document rows, text bytes, listing length, lines (bytes of value 10 in the listing, plus 1), longest row, and fit tests"
+abbrev pub countsOf : ℕ → ℕ → List Piece → Counts
+countsOf rows text ps =
+    record {
+      rows = rows;
+      text = text;
+      length = length (bytesOf ps);
+      lines = lines (bytesOf ps);
+      longest = longestRow 0 ps;
+      tests = testsIn ps;
+    }
+
+-- a document of so many rows and text bytes is listed: "22: listing longer than its area"; "22 leaves .. in the listing area the first
+-- bytes of the full listing, as many as fit"; "no refusal or success touches the listing area past what was written"
 unfoldable pub listed : ℕ → ℕ → List Piece → List ℕ → Outcome
 listed rows text ps area =
     record {
-      answer =
-          cond (ltb (length area) (length (bytesOf ps))) Listing
-          (Done rows text (length (bytesOf ps)) (lines (bytesOf ps)) (longestRow 0 ps) (testsIn ps));
+      answer = cond (ltb (length area) (length (bytesOf ps))) Listing (Done (countsOf rows text ps));
       listing = paint area 0 (bytesOf ps);
     }
 

@@ -3,7 +3,8 @@ use Prim.Native.Nat.{ℕ, _+_, _-_, _*_, _<_, _≤_}
 use mathlib.Core.Bool.{Bool}
 use mathlib.Core.List.{List}
 use mathlib.Core.Path.{_≡_}
-use lib.ListN.{length}
+use lib.ListN.{length, take, drop}
+use Rattle.document.specs.Doc.{through}
 use Rattle.document.specs.Rows.{word, docAt, Valid}
 use Rattle.layout.specs.declared.cursor.Cursor.{Cursor}
 use Rattle.layout.specs.Layout.{Piece, after, run, layout}
@@ -13,6 +14,26 @@ use Rattle.layout.specs.Paint.{paint}
 -- the row that holds the cursor starts at end - width, which is not after the cursor
 abbrev pub Steady : ℕ → Cursor → Type 0
 Steady width c = c .end ≤ c .position + width
+
+-- the text of row r
+abbrev pub textOf : List ℕ → List ℕ → ℕ → List ℕ
+textOf rows texts r = take (word rows r 2) (drop (word rows r 1) texts)
+
+-- the text of row r lies in the text area, and the numbers stay below the machine's limit when it is emitted
+pub record TextRoom (rows texts : List ℕ) (r width : ℕ) (c : Cursor) : Type 0 where
+  pub steady : Steady width c
+  pub inside : word rows r 1 + word rows r 2 ≤ length texts
+  pub room : c .position + word rows r 2 + width < 18446744073709551616
+
+-- the same of a break, as a blank and as a newline
+pub record BreakRoom (rows : List ℕ) (r width nest : ℕ) (c : Cursor) : Type 0 where
+  pub steady : Steady width c
+  pub blank : c .position + word rows r 1 + width < 18446744073709551616
+  pub newline : c .position + 1 + nest + width < 18446744073709551616
+
+-- the distance from the end of the left child of the join at row r to the next break, where it is `next` at the join's end
+abbrev pub nextOfLeft : List ℕ → ℕ → ℕ → ℕ
+nextOfLeft rows r next = through (word rows (r - 1) 6) (word rows (r - 1) 5) next
 
 -- one piece is emitted: the cursor goes from c to v, and the listing area from l to l′
 pub record Emitted (width : ℕ) (p : Piece) (c v : Cursor) (l l′ : List ℕ) : Type 0 where

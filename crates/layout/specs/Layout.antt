@@ -21,6 +21,10 @@ abbrev pub moved : ℕ → Cursor → ℕ → Cursor
 moved width c position =
     record { position = position; end = c .end; longest = max (c .longest) (position + width - c .end); tests = c .tests }
 
+-- one fit test more
+abbrev pub tested : Cursor → Cursor
+tested c = record { position = c .position; end = c .end; longest = c .longest; tests = c .tests + 1 }
+
 -- the cursor after a piece: "An unbroken place (in a flat group) emits its blank, a broken one a newline, sets the row's end to
 -- position + width, and then emits the nest in spaces."
 abbrev pub after : ℕ → Cursor → Piece → Cursor
@@ -30,8 +34,7 @@ after width c (newlineᵖ blank n) =
     moved width
     (record { position = c .position + 1; end = c .position + 1 + width; longest = c .longest; tests = c .tests })
     (c .position + 1 + n)
-after width c (testᵖ f) =
-    record { position = c .position; end = c .end; longest = c .longest; tests = c .tests + 1 }
+after width c (testᵖ f) = tested c
 
 -- the cursor after some pieces
 unfoldable pub run : ℕ → Cursor → List Piece → Cursor

@@ -6,10 +6,11 @@ ghost use lib.Dec.{eqb};
 ghost use lib.ListN.{replicate};
 ghost use Rattle.layout.specs.Listing.{countOf};
 ghost use Rattle.layout.specs.Paint.{paint};
+ghost use Rattle.basics.specs.Lent.{was, left};
 
 // Copies as many bytes as fit to the front of the area.
 fn copy(area: &mut [u8], bytes: &[u8])
-    ensures { λ _. ⌜ now (area .exit) ≡ paint (now (area .entry)) 0 (now (bytes .entry)) ⌝ }
+    ensures { λ _. ⌜ left area ≡ paint (was area) 0 (was bytes) ⌝ }
 {
     let mut i = 0;
     while i < area.len() && i < bytes.len() {
@@ -20,7 +21,7 @@ fn copy(area: &mut [u8], bytes: &[u8])
 
 // Copies them into the part of the area that starts at a position; there may be no such part.
 pub fn copy_at(area: &mut [u8], position: usize, bytes: &[u8])
-    ensures { λ _. ⌜ now (area .exit) ≡ paint (now (area .entry)) position (now (bytes .entry)) ⌝ }
+    ensures { λ _. ⌜ left area ≡ paint (was area) position (was bytes) ⌝ }
 {
     if position < area.len() {
         copy(&mut area[position..], bytes);
@@ -29,7 +30,7 @@ pub fn copy_at(area: &mut [u8], position: usize, bytes: &[u8])
 
 // Writes the byte b n times, or as often as it fits, to the front of the area.
 fn fill(area: &mut [u8], n: usize, b: u8)
-    ensures { λ _. ⌜ now (area .exit) ≡ paint (now (area .entry)) 0 (replicate n b) ⌝ }
+    ensures { λ _. ⌜ left area ≡ paint (was area) 0 (replicate n b) ⌝ }
 {
     let mut i = 0;
     while i < area.len() && i < n {
@@ -39,7 +40,7 @@ fn fill(area: &mut [u8], n: usize, b: u8)
 }
 
 pub fn fill_at(area: &mut [u8], position: usize, n: usize, b: u8)
-    ensures { λ _. ⌜ now (area .exit) ≡ paint (now (area .entry)) position (replicate n b) ⌝ }
+    ensures { λ _. ⌜ left area ≡ paint (was area) position (replicate n b) ⌝ }
 {
     if position < area.len() {
         fill(&mut area[position..], n, b);
@@ -54,7 +55,7 @@ fn one_if_same(a: u8, b: u8) -> usize
 
 // How many bytes are b.
 pub fn count_of(bytes: &[u8], b: u8) -> usize
-    ensures { λ v. ⌜ (v ≡ countOf b (now (bytes .entry))) × (v < 9223372036854775808) ⌝ }
+    ensures { λ v. ⌜ (v ≡ countOf b (was bytes)) × (v < 9223372036854775808) ⌝ }
 {
     let mut n: usize = 0;
     let mut i: usize = 0;

@@ -6,7 +6,9 @@ ghost use mathlib.Core.Path.{_≡_};
 ghost use Prim.Native.Nat.{_+_, _<_, _≤_, max};
 ghost use lib.ListN.{length};
 ghost use Rattle.layout.specs.Layout.{textᵖ, blankᵖ, newlineᵖ};
-ghost use Rattle.layout.specs.Contract.{Steady, Emitted};
+ghost use Rattle.layout.specs.Contract.{Steady};
+ghost use Rattle.basics.specs.Lent.{was};
+ghost use Rattle.layout.specs.Frames.{Emits};
 
 // The bytes emitted so far, where the row ends, the longest row so far, and the fit tests so far.
 pub struct Cursor {
@@ -38,7 +40,7 @@ impl Cursor {
 
     pub fn text(self, width: usize, listing: &mut [u8], bytes: &[u8]) -> Cursor
         requires { ⌜ Steady width self × (self .position + length (now bytes) + width < 18446744073709551616) ⌝ }
-        ensures { λ v. ⌜ Emitted width (textᵖ (now (bytes .entry))) self v (now (listing .entry)) (now (listing .exit)) ⌝ }
+        ensures { λ v. ⌜ Emits listing width (textᵖ (was bytes)) self v ⌝ }
     {
         let position = self.position;
         let last = position + bytes.len();
@@ -48,7 +50,7 @@ impl Cursor {
 
     pub fn blank(self, width: usize, listing: &mut [u8], size: usize) -> Cursor
         requires { ⌜ Steady width self × (self .position + size + width < 18446744073709551616) ⌝ }
-        ensures { λ v. ⌜ Emitted width (blankᵖ size) self v (now (listing .entry)) (now (listing .exit)) ⌝ }
+        ensures { λ v. ⌜ Emits listing width (blankᵖ size) self v ⌝ }
     {
         let position = self.position;
         fill_at(listing, position, size, 32);
@@ -58,7 +60,7 @@ impl Cursor {
     // The row's end is set after the newline and before the nest's spaces.
     pub fn newline(self, width: usize, listing: &mut [u8], nest: usize) -> Cursor
         requires { ⌜ self .position + 1 + nest + width < 18446744073709551616 ⌝ }
-        ensures { λ v. ⌜ Emitted width (newlineᵖ 0 nest) self v (now (listing .entry)) (now (listing .exit)) ⌝ }
+        ensures { λ v. ⌜ Emits listing width (newlineᵖ 0 nest) self v ⌝ }
     {
         let position = self.position;
         let next = position + 1;
@@ -77,7 +79,7 @@ impl Cursor {
     // One fit test more.
     pub fn tested(self) -> Cursor
         requires { ⌜ self .tests + 1 < 18446744073709551616 ⌝ }
-        ensures { λ v. ⌜ v ≡ record { position = self .position; end = self .end; longest = self .longest; tests = self .tests + 1 } ⌝ }
+        ensures { λ v. ⌜ v ≡ Rattle.layout.specs.Layout.tested self ⌝ }
     {
         Cursor {
             position: self.position,

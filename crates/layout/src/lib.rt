@@ -3,30 +3,32 @@ use cursor::Cursor;
 use document::check::counts_ok;
 use document::check::find_fault;
 use rows::lay_out;
-ghost use mathlib.Core.Path.{_≡_};
 ghost use Prim.Native.Nat.{_≤_};
 ghost use Rattle.document.specs.Rows.{Accepted};
 ghost use Rattle.layout.specs.Layout.{pieces};
 ghost use Rattle.layout.specs.Call.{docOf, listed, outcome};
+ghost use Rattle.basics.specs.Lent.{was};
+ghost use Rattle.layout.specs.Frames.{Lists};
 
 pub mod area;
 pub mod cursor;
 pub mod rows;
 
+// What is reported of a listing: document rows, text bytes, listing length, lines, longest row, fit tests.
+pub struct Counts {
+    pub rows: usize,
+    pub text: usize,
+    pub length: usize,
+    pub lines: usize,
+    pub longest: usize,
+    pub tests: usize,
+}
+
 // What a layout answers: what it reports, or the first faulty row of the document (9), a width over its limit (6), a listing longer than
 // its area (22).
 pub enum Laid {
-    Done {
-        rows: usize,
-        text: usize,
-        length: usize,
-        lines: usize,
-        longest: usize,
-        tests: usize,
-    },
-    Document {
-        row: usize,
-    },
+    Done { counts: Counts },
+    Document { row: usize },
     Width,
     Listing,
 }
@@ -41,7 +43,7 @@ pub fn layout_accepted(
     listing: &mut [u8],
 ) -> Laid
     requires { ⌜ Accepted (now rows) count (now text) total × (width ≤ 65535) ⌝ }
-    ensures { λ v. ⌜ record { answer = v; listing = now (listing .exit) } ≡ listed count total (pieces width (docOf (now (rows .entry)) count (now (text .entry)))) (now (listing .entry)) ⌝ }
+    ensures { λ v. ⌜ Lists listing v (listed count total (pieces width (docOf (was rows) count (was text)))) ⌝ }
 {
     let start = Cursor {
         position: 0,
@@ -55,14 +57,15 @@ pub fn layout_accepted(
         return Laid::Listing;
     }
     let lines = area::count_of(&listing[..length], 10) + 1;
-    Laid::Done {
+    let counts = Counts {
         rows: count,
         text: total,
         length,
         lines,
         longest: last.longest,
         tests: last.tests,
-    }
+    };
+    Laid::Done { counts }
 }
 
 // Lays out a given document.
@@ -74,7 +77,7 @@ pub fn layout(
     width: usize,
     listing: &mut [u8],
 ) -> Laid
-    ensures { λ v. ⌜ record { answer = v; listing = now (listing .exit) } ≡ outcome (now (rows .entry)) count (now (text .entry)) total width (now (listing .entry)) ⌝ }
+    ensures { λ v. ⌜ Lists listing v (outcome (was rows) count (was text) total width) ⌝ }
 {
     if !counts_ok(rows.len(), count, text.len(), total) {
         return Laid::Document { row: 0 };

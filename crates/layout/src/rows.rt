@@ -4,17 +4,17 @@ use document::measures::left_of;
 use document::measures::through;
 use document::measures::word_at;
 ghost use mathlib.Core.Path.{_≡_};
-ghost use Prim.Native.Nat.{_+_, _-_, _<_, _≤_};
-ghost use lib.ListN.{length, take, drop};
-ghost use Rattle.document.specs.Doc;
+ghost use Prim.Native.Nat.{_+_, _<_};
 ghost use Rattle.document.specs.Rows.{word};
 ghost use Rattle.layout.specs.Layout.{textᵖ, placed};
-ghost use Rattle.layout.specs.Contract.{Steady, Emitted, Room, LaidOut};
+ghost use Rattle.layout.specs.Contract.{TextRoom, BreakRoom, Room, nextOfLeft, textOf};
+ghost use Rattle.basics.specs.Lent.{was};
+ghost use Rattle.layout.specs.Frames.{Emits, LaysOut};
 
 // The distance from the end of the left child of the join at row r to the next break, where it is `next` at the join's end.
 fn next_of_left(rows: &[u32], r: usize, next: usize) -> usize
     requires { ⌜ (0 < r) × (next < 4611686018427387904) ⌝ }
-    ensures { λ v. ⌜ (v ≡ Rattle.document.specs.Doc.through (word (now (rows .entry)) (r - 1) 6) (word (now (rows .entry)) (r - 1) 5) next) × (v < next + 4294967296) ⌝ }
+    ensures { λ v. ⌜ (v ≡ nextOfLeft (was rows) r next) × (v < next + 4294967296) ⌝ }
 {
     let right = r - 1;
     through(word_at(rows, right, 6), word_at(rows, right, 5), next)
@@ -28,8 +28,8 @@ fn lay_text(
     c: Cursor,
     listing: &mut [u8],
 ) -> Cursor
-    requires { ⌜ Steady width c × (word (now rows) r 1 + word (now rows) r 2 ≤ length (now texts)) × (c .position + word (now rows) r 2 + width < 18446744073709551616) ⌝ }
-    ensures { λ v. ⌜ Emitted width (textᵖ (take (word (now (rows .entry)) r 2) (drop (word (now (rows .entry)) r 1) (now (texts .entry))))) c v (now (listing .entry)) (now (listing .exit)) ⌝ }
+    requires { ⌜ TextRoom (now rows) (now texts) r width c ⌝ }
+    ensures { λ v. ⌜ Emits listing width (textᵖ (textOf (was rows) (was texts) r)) c v ⌝ }
 {
     let from = word_at(rows, r, 1);
     let size = word_at(rows, r, 2);
@@ -46,8 +46,8 @@ fn lay_break(
     c: Cursor,
     listing: &mut [u8],
 ) -> Cursor
-    requires { ⌜ Steady width c × (c .position + word (now rows) r 1 + width < 18446744073709551616) × (c .position + 1 + nest + width < 18446744073709551616) ⌝ }
-    ensures { λ v. ⌜ Emitted width (placed flat (word (now (rows .entry)) r 1) nest) c v (now (listing .entry)) (now (listing .exit)) ⌝ }
+    requires { ⌜ BreakRoom (now rows) r width nest c ⌝ }
+    ensures { λ v. ⌜ Emits listing width (placed flat (word (was rows) r 1) nest) c v ⌝ }
 {
     if flat {
         let blank = word_at(rows, r, 1);
@@ -70,7 +70,7 @@ pub fn lay_out(
     listing: &mut [u8],
 ) -> Cursor
     requires { ⌜ Room (now rows) (now texts) r0 width nest0 next c0 ⌝ }
-    ensures { λ v. ⌜ LaidOut (now (rows .entry)) (now (texts .entry)) r0 width nest0 flat0 next c0 v (now (listing .entry)) (now (listing .exit)) ⌝ }
+    ensures { λ v. ⌜ LaysOut rows texts listing r0 width nest0 flat0 next c0 v ⌝ }
 {
     let mut r = r0;
     let mut nest = nest0;

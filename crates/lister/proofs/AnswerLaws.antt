@@ -2,17 +2,19 @@
 use Prim.Native.Nat.{ℕ, _≤_}
 use native.Mathlib.Omega.{arith}
 use mathlib.Core.Bool.{Bool, true, false, cond}
-use mathlib.Core.List.{List}
-use mathlib.Core.Path.{_≡_, refl, sym, ap, _∙_}
+use mathlib.Core.Path.{_≡_, refl}
 use lib.Dec.{ltb, eqb}
 use lib.ListN.{length}
 use Rattle.document.specs.Doc.{Doc}
 use Rattle.document.specs.Walk.{Marked, plain, Progress, going, stopped, walk}
-use Rattle.pool.specs.declared.Verdict.{Verdict}
-use Rattle.pool.specs.declared.Verdict.the-variants as verdicts
+use Rattle.layout.specs.declared.Counts.{Counts}
+use Rattle.layout.specs.declared.Laid.the-variants as laids
+use Rattle.layout.specs.Call as layout
+use Rattle.pool_check.specs.declared.Verdict.{Verdict}
 use Rattle.lister.specs.declared.Answer.{Answer}
-use Rattle.lister.specs.declared.Answer.the-variants.{Done, Listing}
-use Rattle.lister.specs.Answers.{number, stopAnswer}
+use Rattle.lister.specs.declared.Answer.the-variants.{Pool, Root, Size}
+use Rattle.lister.specs.Answers.{number, stopAnswer, ofLaid}
+use Rattle.lister.specs.Source.{isAccepted}
 use Rattle.lister.specs.Prints.{Areas, Outcome, untouched, cleared, listed, afterWalk, printDoc, checked}
 
 -- a print that has begun answers 0, or 7 and more
@@ -30,12 +32,12 @@ late-stop n at = by (eqb n 7) (eqb n 8) (eqb n 20)
     by false false false = λ h k. omega arith
 
 late-listed : (rows bytes width : ℕ) (d : Doc) (areas : Areas) → Late (number (listed rows bytes width d areas .answer))
-unfolding Late listed number
-late-listed rows bytes width d areas = by (ltb (length (areas .listing)) _) _ _ _ _
+unfolding Late listed layout.listed ofLaid number
+late-listed rows bytes width d areas = by (ltb (length (areas .listing)) _) _
   where
-    by : (full : Bool) (a b c e : ℕ) → Late (number (cond full Listing (Done rows bytes a b c e)))
-    by true a b c e = λ h k. omega arith
-    by false a b c e = λ h k. omega arith
+    by : (full : Bool) (counts : Counts) → Late (number (ofLaid (cond full laids.Listing (laids.Done counts))))
+    by true counts = λ h k. omega arith
+    by false counts = λ h k. omega arith
 
 late-walk : (p : Progress) (d : Doc) (width : ℕ) (areas : Areas) → Late (number (afterWalk p d width areas .answer))
 unfolding afterWalk cleared
@@ -52,10 +54,13 @@ pub early-refusals-change-no-area :
     1 ≤ number (checked v hasRoot sizes print areas .answer) → number (checked v hasRoot sizes print areas .answer) ≤ 6 →
     checked v hasRoot sizes print areas .areas ≡ areas
 unfolding checked untouched Late
-early-refusals-change-no-area verdicts.Accepted true true print areas late h k = absurd (late h k)
-early-refusals-change-no-area verdicts.Accepted true false print areas late h k = refl
-early-refusals-change-no-area verdicts.Accepted false sizes print areas late h k = refl
-early-refusals-change-no-area verdicts.Words hasRoot sizes print areas late h k = refl
-early-refusals-change-no-area verdicts.Limit hasRoot sizes print areas late h k = refl
-early-refusals-change-no-area (verdicts.Strings row) hasRoot sizes print areas late h k = refl
-early-refusals-change-no-area (verdicts.Rows row) hasRoot sizes print areas late h k = refl
+early-refusals-change-no-area v hasRoot sizes print areas late = by (isAccepted v) hasRoot sizes
+  where
+    answered : Bool → Bool → Bool → Outcome
+    answered a p s = cond a (cond p (cond s print (untouched Size areas)) (untouched Root areas)) (untouched (Pool v) areas)
+
+    by : (a p s : Bool) → 1 ≤ number (answered a p s .answer) → number (answered a p s .answer) ≤ 6 → answered a p s .areas ≡ areas
+    by true true true h k = absurd (late h k)
+    by true true false h k = refl
+    by true false s h k = refl
+    by false p s h k = refl

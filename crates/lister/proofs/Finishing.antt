@@ -1,11 +1,15 @@
 -- What follows the walk makes a print's outcome of it.
 use Prim.Native.Nat.{ℕ, _+_, _-_, _*_, _≤_}
 use native.Mathlib.Omega.{arith}
-use mathlib.Core.Bool.{Bool, true, false, cond}
+use mathlib.Core.Bool.{true, false}
 use mathlib.Core.List.{List, [], _∷_, _++_}
+use mathlib.Core.Logic.{⊎-elim}
 use mathlib.Core.Path.{_≡_, refl, sym, ap, ap₂, _∙_, subst}
-use lib.Dec.{eqb, ltb}
-use lib.ListN.{length, replicate, length-append, length-replicate}
+use lib.Dec.{eqb}
+use types.Run.{OneOf}
+use denote.Enum.Declared.{tagOf}
+use Rattle.layout.proofs.Laid as the-laids
+use lib.ListN.{length, replicate}
 use borrow.Author.Tests.{eq-eqb, ne-eqb}
 use Rattle.document.specs.declared.sink.Sink.{Sink}
 use Rattle.document.specs.Doc.{Doc, rowCount, textBytes}
@@ -20,24 +24,17 @@ use Rattle.document.proofs.Steps.{Stopped, sinkAt}
 use Rattle.document.proofs.Emits.{Emitted, emit-of-going-walk, emit-of-stopped-walk}
 use Rattle.layout.specs.declared.Laid.{Laid}
 use Rattle.layout.specs.declared.Laid.the-variants as laids
-use Rattle.layout.specs.Layout.{Piece, pieces}
-use Rattle.layout.specs.Listing.{bytesOf, lines, longestRow, testsIn}
+use Rattle.layout.specs.Layout.{pieces}
 use Rattle.layout.specs.Call as call
 use Rattle.lister.specs.declared.Answer.{Answer}
-use Rattle.lister.specs.declared.Answer.the-variants.{Done, Listing, TextArea}
-use Rattle.lister.specs.Answers.{stopAnswer}
+use Rattle.lister.specs.declared.Answer.the-variants.{TextArea, Listing}
+use Rattle.lister.specs.Answers.{stopAnswer, ofLaid}
 use Rattle.lister.specs.Prints.{Areas, Outcome, cleared, filled, listed, afterWalk, printDoc}
-use Rattle.lister.specs.Stages.{ofLaid, laidOut, finished}
+use Rattle.lister.specs.Stages.{laidOut, finished}
 
 -- the areas with what a walk left in the document areas
 abbrev pub over : Areas → State → Areas
 over areas st = record { rows = rowsOf st; text = textOf st; listing = areas .listing }
-
-of-listed : (full : Bool) (rows bytes a b c e : ℕ)
-    → ofLaid (cond full laids.Listing (laids.Done rows bytes a b c e)) ≡ cond full Listing (Done rows bytes a b c e)
-unfolding ofLaid
-of-listed true rows bytes a b c e = refl
-of-listed false rows bytes a b c e = refl
 
 -- the areas of a document that is stored, with zeros after it
 abbrev standing : Doc → ℕ → ℕ → State
@@ -60,13 +57,11 @@ module _ (d : Doc) (fine : Fine d) (few : rowCount d ≤ 16384) (small : length 
 
   -- a document that stands in the areas is laid out
   standing-listed : finished (sinkOf there) width (over areas there) ≡ listed (rowCount d) (length (textBytes d)) width d areas
-  unfolding finished laidOut listed filled call.listed
+  unfolding finished laidOut listed filled
   standing-listed =
       let e : call.docOf (rowsOf there) (rowCount d) (textOf there) ≡ d = stored-reads-back d moreRows moreTexts in
       let l : length (stored 0 d) ≡ rowCount d * 7 = stored-length 0 d in
-      let ps : List Piece = pieces width d in
-      let o = of-listed (ltb (length (areas .listing)) (length (bytesOf ps))) (rowCount d) (length (textBytes d)) (length (bytesOf ps)) (lines (bytesOf ps)) (longestRow 0 ps) (testsIn ps) in
-      rw (e, l, o)
+      rw (e, l)
 
 not-zero : (n : ℕ) → eqb n 0 ≡ false → n ≡ 0 → ⊥
 not-zero n e z = let q : true ≡ false = sym (eq-eqb n 0 z) ∙ e in let y : _≡_ {A = ℕ} 0 1 = cc in omega arith
@@ -147,3 +142,11 @@ module _ (s : Sink) (width : ℕ) (areas : Areas) (v : Answer) where
 pub other-stop : (n place : ℕ) → (n ≡ 7 → ⊥) → (n ≡ 8 → ⊥) → (n ≡ 20 → ⊥) → TextArea place ≡ stopAnswer n place
 unfolding stopAnswer
 other-stop n place a b c = rw (ne-eqb n 7 a, ne-eqb n 8 b, ne-eqb n 20 c)
+
+-- any layout but one that is done
+pub refused-layout : (l : Laid) → OneOf (1 ∷ 2 ∷ 3 ∷ []) (tagOf the-laids.the-type l) → Listing ≡ ofLaid l
+unfolding ofLaid
+refused-layout (laids.Done counts) other = absurd (⊎-elim (λ e. omega arith) (⊎-elim (λ e. omega arith) (λ e. omega arith)) other)
+refused-layout (laids.Document row) other = refl
+refused-layout laids.Width other = refl
+refused-layout laids.Listing other = refl

@@ -2,16 +2,16 @@
 use Prim.Native.Nat.{ℕ}
 use mathlib.Core.Bool.{cond}
 use lib.Dec.{eqb}
+use Rattle.pool_check.specs.Check as check
+use Rattle.layout.specs.declared.Laid.{Laid}
+use Rattle.layout.specs.declared.Laid.the-variants as laids
 use Rattle.lister.specs.declared.Answer.{Answer}
-use Rattle.lister.specs.declared.Answer.the-variants.{Done, Words, Limit, Strings, Rows, Root, Size, Names, Document, RowArea, TextArea, Listing}
+use Rattle.lister.specs.declared.Answer.the-variants.{Done, Pool, Root, Size, Names, Document, RowArea, TextArea, Listing}
 
 -- 0 for none
 unfoldable pub number : Answer → ℕ
-number (Done rows text length lines longest tests) = 0
-number Words = 1
-number Limit = 2
-number (Strings row) = 3
-number (Rows row) = 4
+number (Done counts) = 0
+number (Pool verdict) = check.number verdict
 number Root = 5
 number Size = 6
 number (Names row) = 7
@@ -23,11 +23,8 @@ number Listing = 22
 -- "for 3, 4 and 9 the first faulty row in its table (0 for counts), for 7 the row of the chain's start or the let, for 8, 20
 -- and 21 the document rows written so far, else 0"
 unfoldable pub place : Answer → ℕ
-place (Done rows text length lines longest tests) = 0
-place Words = 0
-place Limit = 0
-place (Strings row) = row
-place (Rows row) = row
+place (Done counts) = 0
+place (Pool verdict) = check.place verdict
 place Root = 0
 place Size = 0
 place (Names row) = row
@@ -39,3 +36,11 @@ place Listing = 0
 -- the answer for a walk that stopped under 7, 8, 20 or 21
 unfoldable pub stopAnswer : ℕ → ℕ → Answer
 stopAnswer n at = cond (eqb n 7) (Names at) (cond (eqb n 8) (Document at) (cond (eqb n 20) (RowArea at) (TextArea at)))
+
+-- the answer for the layout of the document that was printed: its counts, or 22. It is refused under no other number: the document is
+-- accepted, and the width was tested before
+unfoldable pub ofLaid : Laid → Answer
+ofLaid (laids.Done counts) = Done counts
+ofLaid (laids.Document row) = Listing
+ofLaid laids.Width = Listing
+ofLaid laids.Listing = Listing

@@ -1,5 +1,6 @@
 // Prints of a pool that was checked before, so that many prints of one pool check it once.
 use crate::Answer;
+use binders::printer::Printer;
 use declarations::listing;
 use document::sink::Sink;
 use document::sink::clear;
@@ -8,17 +9,15 @@ use layout::Laid;
 use layout::layout_accepted;
 use pool::tables::Tables;
 ghost use mathlib.Core.Path.{_≡_};
-ghost use Prim.Native.Nat.{_<_, _≤_};
-ghost use Rattle.document.specs.Rows.{Accepted};
-ghost use Rattle.pool.specs.Areas.{over};
 ghost use Rattle.pool.specs.Tables.{E, D};
 ghost use Rattle.pool.specs.Unfold.{exprAt, declarAt};
-ghost use Rattle.pretty_printer.specs.Asked.{Pooled};
+ghost use Rattle.binders.specs.Options.{indented};
 ghost use Rattle.pretty_printer.specs.Exprs.{exprDoc};
-ghost use Rattle.pretty_printer.specs.Declars.{declarDoc};
-ghost use Rattle.lister.specs.Answers.{stopAnswer};
+ghost use Rattle.declarations.specs.Declars.{declarDoc};
+ghost use Rattle.lister.specs.Answers.{stopAnswer, ofLaid};
 ghost use Rattle.lister.specs.Prints.{printDoc};
-ghost use Rattle.lister.specs.Stages.{ofLaid, finished};
+ghost use Rattle.lister.specs.Frames.{givenPool, Prints};
+ghost use Rattle.lister.specs.Stages.{Begins, WalkEnds, finished};
 
 // The answer for a walk that stopped under 7, 8, 20 or 21.
 fn stop_answer(number: u32, place: usize) -> Answer
@@ -37,31 +36,15 @@ fn of_laid(laid: Laid) -> Answer
     ensures { λ v. ⌜ v ≡ ofLaid laid ⌝ }
 {
     match laid {
-        Laid::Done {
-            rows,
-            text,
-            length,
-            lines,
-            longest,
-            tests,
-        } => Answer::Done {
-            rows,
-            text,
-            length,
-            lines,
-            longest,
-            tests,
-        },
-        Laid::Document { row } => Answer::Listing,
-        Laid::Width => Answer::Listing,
-        Laid::Listing => Answer::Listing,
+        Laid::Done { counts } => Answer::Done { counts },
+        _ => Answer::Listing,
     }
 }
 
 // What follows the walk: a refused one leaves both document areas zero; else the document is laid out.
 fn finish(s: Sink, width: usize, rows: &mut [u32], text: &mut [u8], listing: &mut [u8]) -> Answer
-    requires { ⌜ (s .stop ≡ 0 → Accepted (now rows) (s .rows) (now text) (s .text)) × (width ≤ 65535) ⌝ }
-    ensures { λ v. ⌜ record { answer = v; areas = record { rows = now (rows .exit); text = now (text .exit); listing = now (listing .exit) } } ≡ finished s width (record { rows = now (rows .entry); text = now (text .entry); listing = now (listing .entry) }) ⌝ }
+    requires { ⌜ WalkEnds s width (now rows) (now text) ⌝ }
+    ensures { λ v. ⌜ Prints rows text listing v (finished s width) ⌝ }
 {
     if s.stop != 0 {
         clear(rows, text);
@@ -84,21 +67,17 @@ pub fn print_checked_expr(
     text: &mut [u8],
     listing: &mut [u8],
 ) -> Answer
-    requires { ⌜ (Pooled (now bytes) (now names) (now words) t) × (root < E (now words)) × (indent ≤ 64) × (width ≤ 65535) ⌝ }
-    ensures { λ v. ⌜ record { answer = v; areas = record { rows = now (rows .exit); text = now (text .exit); listing = now (listing .exit) } } ≡ printDoc (exprDoc indent (exprAt (over (now (bytes .entry)) (now (names .entry)) (now (words .entry))) root)) width (record { rows = now (rows .entry); text = now (text .entry); listing = now (listing .entry) }) ⌝ }
+    requires { ⌜ Begins (now bytes) (now names) (now words) t root (E (now words)) indent width ⌝ }
+    ensures { λ v. ⌜ Prints rows text listing v (printDoc (exprDoc (indented indent)
+        (exprAt (givenPool bytes names words) root)) width) ⌝ }
 {
     clear(rows, text);
-    let s = listing::print_expr(
-        bytes,
-        names,
-        words,
-        t,
-        rows,
-        text,
-        start(),
-        root,
-        indent as u32,
-    );
+    let nest = indent as u32;
+    let p = Printer {
+        tables: t,
+        indent: nest,
+    };
+    let s = listing::print_expr(bytes, names, words, p, rows, text, start(), root);
     finish(s, width, rows, text, listing)
 }
 
@@ -115,20 +94,16 @@ pub fn print_checked_declar(
     text: &mut [u8],
     listing: &mut [u8],
 ) -> Answer
-    requires { ⌜ (Pooled (now bytes) (now names) (now words) t) × (root < D (now words)) × (indent ≤ 64) × (width ≤ 65535) ⌝ }
-    ensures { λ v. ⌜ record { answer = v; areas = record { rows = now (rows .exit); text = now (text .exit); listing = now (listing .exit) } } ≡ printDoc (declarDoc indent (declarAt (over (now (bytes .entry)) (now (names .entry)) (now (words .entry))) root)) width (record { rows = now (rows .entry); text = now (text .entry); listing = now (listing .entry) }) ⌝ }
+    requires { ⌜ Begins (now bytes) (now names) (now words) t root (D (now words)) indent width ⌝ }
+    ensures { λ v. ⌜ Prints rows text listing v (printDoc (declarDoc (indented indent)
+        (declarAt (givenPool bytes names words) root)) width) ⌝ }
 {
     clear(rows, text);
-    let s = listing::print_declar(
-        bytes,
-        names,
-        words,
-        t,
-        rows,
-        text,
-        start(),
-        root,
-        indent as u32,
-    );
+    let nest = indent as u32;
+    let p = Printer {
+        tables: t,
+        indent: nest,
+    };
+    let s = listing::print_declar(bytes, names, words, p, rows, text, start(), root);
     finish(s, width, rows, text, listing)
 }

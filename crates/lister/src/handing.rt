@@ -1,19 +1,17 @@
 // The parts of the areas that are handed out.
 use crate::is_accepted;
+use basics::bools::both;
 use document::check::counts_ok;
 use document::check::find_fault;
 use document::measures::word_at;
 use pool::strings::string_at;
 use pool::tables::tables_of;
-use utf8::bools::both;
 ghost use mathlib.Core.Path.{_≡_};
 ghost use Prim.Native.Nat.{_<_, min};
-ghost use mathlib.Core.Bool.{cond};
-ghost use mathlib.Core.List.{[]};
 ghost use lib.ListN.{take, drop};
-ghost use Rattle.document.specs.Rows.{word};
-ghost use Rattle.pool.specs.Tables.{pool, stringAt};
-ghost use Rattle.lister.specs.Handing.{hasText, hasString};
+ghost use Rattle.basics.specs.Lent.{was};
+ghost use Rattle.lister.specs.Handing.{hasText, textPart, hasString, stringPart};
+ghost use Rattle.lister.specs.Frames.{given};
 
 fn lesser(a: usize, b: usize) -> usize
     ensures { λ v. ⌜ v ≡ min a b ⌝ }
@@ -24,7 +22,7 @@ fn lesser(a: usize, b: usize) -> usize
 // So many bytes from an offset on; what lies past the end is left out.
 fn part(s: &[u8], offset: usize, size: usize) -> &[u8]
     requires { ⌜ (offset < 4294967296) × (size < 4294967296) ⌝ }
-    ensures { λ r. ⌜ now r ≡ take size (drop offset (now (s .entry))) ⌝ }
+    ensures { λ r. ⌜ now r ≡ take size (drop offset (was s)) ⌝ }
 {
     let from = lesser(offset, s.len());
     let to = lesser(offset + size, s.len());
@@ -33,7 +31,7 @@ fn part(s: &[u8], offset: usize, size: usize) -> &[u8]
 
 // Whether the document is accepted and has the text row r.
 fn has_text(rows: &[u32], count: usize, text: &[u8], total: usize, r: usize) -> bool
-    ensures { λ v. ⌜ v ≡ hasText (now (rows .entry)) count (now (text .entry)) total r ⌝ }
+    ensures { λ v. ⌜ v ≡ hasText (was rows) count (was text) total r ⌝ }
 {
     if !counts_ok(rows.len(), count, text.len(), total) {
         return false;
@@ -45,7 +43,7 @@ fn has_text(rows: &[u32], count: usize, text: &[u8], total: usize, r: usize) -> 
 }
 
 pub fn text_part<'a>(rows: &[u32], count: usize, text: &'a [u8], total: usize, r: usize) -> &'a [u8]
-    ensures { λ s. ⌜ now s ≡ cond (hasText (now (rows .entry)) count (now (text .entry)) total r) (take (word (now (rows .entry)) r 2) (drop (word (now (rows .entry)) r 1) (now (text .entry)))) [] ⌝ }
+    ensures { λ s. ⌜ now s ≡ textPart (was rows) count (was text) total r ⌝ }
 {
     if !has_text(rows, count, text, total, r) {
         return part(text, 0, 0);
@@ -55,14 +53,14 @@ pub fn text_part<'a>(rows: &[u32], count: usize, text: &'a [u8], total: usize, r
 
 // Whether the pool is accepted and has the string row r.
 fn has_string(bytes: &[u8], words: &[u32], r: usize) -> bool
-    ensures { λ v. ⌜ v ≡ hasString (now (bytes .entry)) (now (words .entry)) r ⌝ }
+    ensures { λ v. ⌜ v ≡ hasString (given bytes words) r ⌝ }
 {
     let t = tables_of(words, words);
-    both(is_accepted(pool::check(bytes, words)), r < t.strings)
+    both(is_accepted(pool_check::check(bytes, words)), r < t.strings)
 }
 
 pub fn string_part<'a>(bytes: &'a [u8], words: &[u32], r: usize) -> &'a [u8]
-    ensures { λ s. ⌜ now s ≡ cond (hasString (now (bytes .entry)) (now (words .entry)) r) (stringAt (pool (now (bytes .entry)) (now (words .entry))) r) [] ⌝ }
+    ensures { λ s. ⌜ now s ≡ stringPart (given bytes words) r ⌝ }
 {
     if !has_string(bytes, words, r) {
         return part(bytes, 0, 0);

@@ -1,67 +1,45 @@
 // The calls: check, print expression, print declaration, layout of a given document, handing out.
+use basics::bools::both;
 use checked::print_checked_declar;
 use checked::print_checked_expr;
 use handing::string_part;
 use handing::text_part;
+use layout::Counts;
 use layout::Laid;
-use pool::Verdict;
 use pool::tables::tables_of;
-use utf8::bools::both;
-ghost use mathlib.Core.Path.{_≡_};
-ghost use Prim.Native.Nat.{_≤_};
-ghost use Rattle.pool.specs.Check.{verdict};
-ghost use Rattle.layout.specs.Call.{outcome};
-ghost use Rattle.lister.specs.Handing.{isAccepted, handOut};
-ghost use Rattle.lister.specs.Prints.{sizesOk, printExpr, printDeclar};
-ghost use Rattle.lister.specs.Stages.{mayPrint};
-ghost use Rattle.lister.specs.declared.Answer.{Answer};
+use pool_check::Verdict;
 ghost use mathlib.Core.Bool.{cond};
+ghost use mathlib.Core.Path.{_≡_};
+ghost use Rattle.layout.specs.Call.{outcome};
+ghost use Rattle.basics.specs.Lent.{was};
+ghost use Rattle.layout.specs.Frames.{Lists};
+ghost use Rattle.lister.specs.declared.Answer.{Answer};
+ghost use Rattle.lister.specs.Source.{judged, isAccepted};
+ghost use Rattle.lister.specs.Prints.{sizesOk, printExpr, printDeclar};
+ghost use Rattle.lister.specs.Handing.{handOut};
+ghost use Rattle.lister.specs.Frames.{given, Prints};
+ghost use Rattle.lister.specs.Stages.{mayPrint};
 
 pub mod checked;
 mod handing;
 
 // What a print answers: the counts of a print that succeeded, or the case of a refusal with its place.
 pub enum Answer {
-    Done {
-        rows: usize,
-        text: usize,
-        length: usize,
-        lines: usize,
-        longest: usize,
-        tests: usize,
-    },
-    // 1: the words are short of the head, or their total is wrong.
-    Words,
-    // 2: a count or the byte area is over its limit.
-    Limit,
-    // 3: a string pair.
-    Strings {
-        row: usize,
-    },
-    // 4: any other row rule.
-    Rows {
-        row: usize,
-    },
+    Done { counts: Counts },
+    // 1 to 4: what check finds.
+    Pool { verdict: Verdict },
     // 5: no such root.
     Root,
     // 6: indent over 64 or width over 65,535.
     Size,
     // 7: a chain or let brings the stack over 1,024.
-    Names {
-        row: usize,
-    },
+    Names { row: usize },
     // 8: a text byte or row past the document's limits.
-    Document {
-        rows: usize,
-    },
+    Document { rows: usize },
     // 20: row area full.
-    RowArea {
-        rows: usize,
-    },
+    RowArea { rows: usize },
     // 21: text area full.
-    TextArea {
-        rows: usize,
-    },
+    TextArea { rows: usize },
     // 22: listing longer than its area.
     Listing,
 }
@@ -85,10 +63,7 @@ fn is_accepted(v: Verdict) -> bool
 {
     match v {
         Verdict::Accepted => true,
-        Verdict::Words => false,
-        Verdict::Limit => false,
-        Verdict::Strings { row } => false,
-        Verdict::Rows { row } => false,
+        _ => false,
     }
 }
 
@@ -113,13 +88,10 @@ fn root_or_size(present: bool) -> Answer
 fn refusal(v: Verdict, present: bool) -> Answer
     ensures { λ r. ⌜ r ≡ Rattle.lister.specs.Stages.refusal v present ⌝ }
 {
-    match v {
-        Verdict::Accepted => root_or_size(present),
-        Verdict::Words => Answer::Words,
-        Verdict::Limit => Answer::Limit,
-        Verdict::Strings { row } => Answer::Strings { row },
-        Verdict::Rows { row } => Answer::Rows { row },
+    if is_accepted(v) {
+        return root_or_size(present);
     }
+    Answer::Pool { verdict: v }
 }
 
 // Prints the expression at row `root`: its document into `rows` and `text`, its listing into `listing`.
@@ -133,10 +105,10 @@ pub fn print_expr(
     text: &mut [u8],
     listing: &mut [u8],
 ) -> Answer
-    ensures { λ v. ⌜ record { answer = v; areas = record { rows = now (rows .exit); text = now (text .exit); listing = now (listing .exit) } } ≡ printExpr (now (bytes .entry)) (now (words .entry)) root indent width (record { rows = now (rows .entry); text = now (text .entry); listing = now (listing .entry) }) ⌝ }
+    ensures { λ v. ⌜ Prints rows text listing v (printExpr (given bytes words) root indent width) ⌝ }
 {
     let t = tables_of(words, words);
-    let verdict = pool::check(bytes, words);
+    let verdict = pool_check::check(bytes, words);
     let present = root < t.exprs;
     if !may_print(verdict, present, sizes_ok(indent, width)) {
         return refusal(verdict, present);
@@ -166,10 +138,10 @@ pub fn print_declar(
     text: &mut [u8],
     listing: &mut [u8],
 ) -> Answer
-    ensures { λ v. ⌜ record { answer = v; areas = record { rows = now (rows .exit); text = now (text .exit); listing = now (listing .exit) } } ≡ printDeclar (now (bytes .entry)) (now (words .entry)) root indent width (record { rows = now (rows .entry); text = now (text .entry); listing = now (listing .entry) }) ⌝ }
+    ensures { λ v. ⌜ Prints rows text listing v (printDeclar (given bytes words) root indent width) ⌝ }
 {
     let t = tables_of(words, words);
-    let verdict = pool::check(bytes, words);
+    let verdict = pool_check::check(bytes, words);
     let present = root < t.declars;
     if !may_print(verdict, present, sizes_ok(indent, width)) {
         return refusal(verdict, present);
@@ -190,9 +162,9 @@ pub fn print_declar(
 
 // Whether a pool is accepted, and else the first of the numbers 1 to 4 that refuses it, with its place.
 pub fn check(bytes: &[u8], words: &[u32]) -> Verdict
-    ensures { λ v. ⌜ v ≡ verdict (now (bytes .entry)) (now (words .entry)) ⌝ }
+    ensures { λ v. ⌜ v ≡ judged (given bytes words) ⌝ }
 {
-    pool::check(bytes, words)
+    pool_check::check(bytes, words)
 }
 
 // Lays out a given document.
@@ -204,7 +176,7 @@ pub fn layout(
     width: usize,
     listing: &mut [u8],
 ) -> Laid
-    ensures { λ v. ⌜ record { answer = v; listing = now (listing .exit) } ≡ outcome (now (rows .entry)) count (now (text .entry)) total width (now (listing .entry)) ⌝ }
+    ensures { λ v. ⌜ Lists listing v (outcome (was rows) count (was text) total width) ⌝ }
 {
     layout::layout(rows, count, text, total, width, listing)
 }
@@ -220,7 +192,7 @@ pub fn hand_out<'a>(
     total: usize,
     what: Handed,
 ) -> &'a [u8]
-    ensures { λ s. ⌜ now s ≡ handOut (now (bytes .entry)) (now (words .entry)) (now (rows .entry)) count (now (text .entry)) total what ⌝ }
+    ensures { λ s. ⌜ now s ≡ handOut (given bytes words) (was rows) count (was text) total what ⌝ }
 {
     match what {
         Handed::Text { row } => text_part(rows, count, text, total, row),

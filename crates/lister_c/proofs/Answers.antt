@@ -1,17 +1,13 @@
 -- What a call returns and leaves in its areas, from what the calls inside it ensure.
 -- Assumes nothing.
-use mathlib.Core.Path.{_≡_, refl, ap, _∙_}
+use mathlib.Core.Path.{_≡_, ap, _∙_}
 use mathlib.Core.List.{List}
 use Prim.Native.Nat.{ℕ}
-use Rattle.pool.specs.declared.Verdict.{Verdict}
+use Rattle.pool_check.specs.declared.Verdict.{Verdict}
 use Rattle.layout.specs.declared.Laid.{Laid}
-use Rattle.layout.specs.declared.Laid.the-variants.{Done, Document, Width, Listing}
-use Rattle.layout.specs.Call as call
 use Rattle.layout.specs.Call.{Outcome}
 use Rattle.lister_c.specs.declared.Report.{Report}
 use Rattle.lister.specs.declared.Answer.{Answer}
-use Rattle.lister.specs.declared.Answer.the-variants as variants
-use Rattle.lister.specs.Answers as numbers
 use Rattle.lister.specs.Prints as prints
 use Rattle.lister_c.specs.Reports.{Checked, LaidOut, Printed, ofVerdict, ofLaid, ofAnswer, put, checked, laid, printed}
 
@@ -29,13 +25,6 @@ check-answer {v} {w} {r} out verdict report filled =
     ap (answer (r .number)) filled
     ∙ (ap (λ (x : Report). answer (x .number) (put out x)) report ∙ ap (λ (x : Verdict). checked x out) verdict)
 
-number-of : (v : Laid) → ofLaid v .number ≡ call.number v
-unfolding ofLaid
-number-of (Done rows text length lines longest tests) = refl
-number-of (Document row) = refl
-number-of Width = refl
-number-of Listing = refl
-
 abbrev pub outcomeOf : Laid → List ℕ → Outcome
 outcomeOf v listing = record { answer = v; listing = listing }
 
@@ -48,26 +37,10 @@ pub layout-answer :
     → r ≡ ofLaid v
     → last ≡ put out r
     → answers listing (r .number) last ≡ laid o out
-unfolding laid
+unfolding laid ofLaid
 layout-answer {v} {listing} {o} {r} out outcome report filled =
     ap (answers listing (r .number)) filled
-    ∙ (ap (λ (x : Report). answers listing (x .number) (put out x)) report
-    ∙ (ap (λ (n : ℕ). answers listing n (put out (ofLaid v))) (number-of v) ∙ ap (λ (x : Outcome). laid x out) outcome))
-
-print-number : (v : Answer) → ofAnswer v .number ≡ numbers.number v
-unfolding ofAnswer numbers.number
-print-number (variants.Done rows text length lines longest tests) = refl
-print-number variants.Words = refl
-print-number variants.Limit = refl
-print-number (variants.Strings row) = refl
-print-number (variants.Rows row) = refl
-print-number variants.Root = refl
-print-number variants.Size = refl
-print-number (variants.Names row) = refl
-print-number (variants.Document rows) = refl
-print-number (variants.RowArea rows) = refl
-print-number (variants.TextArea rows) = refl
-print-number variants.Listing = refl
+    ∙ (ap (λ (x : Report). answers listing (x .number) (put out x)) report ∙ ap (λ (x : Outcome). laid x out) outcome)
 
 abbrev pub printOutcome : Answer → prints.Areas → prints.Outcome
 printOutcome v areas = record { answer = v; areas = areas }
@@ -81,8 +54,7 @@ pub print-answer :
     → r ≡ ofAnswer v
     → last ≡ put out r
     → printAnswers areas (r .number) last ≡ printed o out
-unfolding printed
+unfolding printed ofAnswer
 print-answer {v} {areas} {o} {r} out outcome report filled =
     ap (printAnswers areas (r .number)) filled
-    ∙ (ap (λ (x : Report). printAnswers areas (x .number) (put out x)) report
-    ∙ (ap (λ (n : ℕ). printAnswers areas n (put out (ofAnswer v))) (print-number v) ∙ ap (λ (x : prints.Outcome). printed x out) outcome))
+    ∙ (ap (λ (x : Report). printAnswers areas (x .number) (put out x)) report ∙ ap (λ (x : prints.Outcome). printed x out) outcome)

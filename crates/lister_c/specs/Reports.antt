@@ -4,8 +4,9 @@ use mathlib.Core.Bool.{cond}
 use mathlib.Core.List.{List, [], _∷_, _++_}
 use lib.ListN.{length, drop}
 use lib.Dec.{ltb}
-use Rattle.pool.specs.declared.Verdict.{Verdict}
-use Rattle.pool.specs.Check as check
+use Rattle.pool_check.specs.declared.Verdict.{Verdict}
+use Rattle.pool_check.specs.Check as check
+use Rattle.layout.specs.declared.Counts.{Counts}
 use Rattle.layout.specs.declared.Laid.{Laid}
 use Rattle.layout.specs.declared.Laid.the-variants.{Done, Document, Width, Listing}
 use Rattle.layout.specs.Call as call
@@ -16,58 +17,53 @@ use Rattle.lister.specs.Answers as numbers
 use Rattle.lister.specs.Prints as prints
 use Rattle.lister_c.specs.declared.Report.{Report}
 
--- a number and its place; what does not apply is 0
+-- what does not apply is 0
+abbrev pub none : Counts
+none = record { rows = 0; text = 0; length = 0; lines = 0; longest = 0; tests = 0 }
+
+-- a number and its place
 abbrev pub refusal : ℕ → ℕ → Report
-refusal number place =
-    record { number = number; place = place; rows = 0; text = 0; length = 0; lines = 0; longest = 0; tests = 0 }
+refusal number place = record { number = number; place = place; counts = none }
 
 -- the counts of a call that no number refuses
-abbrev pub counts : ℕ → ℕ → ℕ → ℕ → ℕ → ℕ → Report
-counts rows text length lines longest tests =
-    record {
-      number = 0;
-      place = 0;
-      rows = rows;
-      text = text;
-      length = length;
-      lines = lines;
-      longest = longest;
-      tests = tests;
-    }
+abbrev pub success : Counts → Report
+success counts = record { number = 0; place = 0; counts = counts }
 
 -- what check reports
 unfoldable pub ofVerdict : Verdict → Report
 ofVerdict v = refusal (check.number v) (check.place v)
 
--- what layout reports: the counts where there is no refusal
+-- the counts where there is no refusal
+unfoldable pub laidCounts : Laid → Counts
+laidCounts (Done counts) = counts
+laidCounts (Document row) = none
+laidCounts Width = none
+laidCounts Listing = none
+
+-- what layout reports
 unfoldable pub ofLaid : Laid → Report
-ofLaid (Done rows text length lines longest tests) = counts rows text length lines longest tests
-ofLaid (Document row) = refusal (call.number (Document row)) (call.place (Document row))
-ofLaid Width = refusal (call.number Width) (call.place Width)
-ofLaid Listing = refusal (call.number Listing) (call.place Listing)
+ofLaid l = record { number = call.number l; place = call.place l; counts = laidCounts l }
 
--- the answer's number and place in 01, and no counts
-abbrev pub refused : Answer → Report
-refused a = refusal (numbers.number a) (numbers.place a)
+unfoldable pub printCounts : Answer → Counts
+printCounts (answers.Done counts) = counts
+printCounts (answers.Pool verdict) = none
+printCounts answers.Root = none
+printCounts answers.Size = none
+printCounts (answers.Names row) = none
+printCounts (answers.Document rows) = none
+printCounts (answers.RowArea rows) = none
+printCounts (answers.TextArea rows) = none
+printCounts answers.Listing = none
 
--- what a print reports: the counts where there is no refusal
+-- what a print reports
 unfoldable pub ofAnswer : Answer → Report
-ofAnswer (answers.Done rows text length lines longest tests) = counts rows text length lines longest tests
-ofAnswer answers.Words = refused answers.Words
-ofAnswer answers.Limit = refused answers.Limit
-ofAnswer (answers.Strings row) = refused (answers.Strings row)
-ofAnswer (answers.Rows row) = refused (answers.Rows row)
-ofAnswer answers.Root = refused answers.Root
-ofAnswer answers.Size = refused answers.Size
-ofAnswer (answers.Names row) = refused (answers.Names row)
-ofAnswer (answers.Document rows) = refused (answers.Document rows)
-ofAnswer (answers.RowArea rows) = refused (answers.RowArea rows)
-ofAnswer (answers.TextArea rows) = refused (answers.TextArea rows)
-ofAnswer answers.Listing = refused answers.Listing
+ofAnswer a = record { number = numbers.number a; place = numbers.place a; counts = printCounts a }
 
 -- the eight words of a report, in the order of `out`
 abbrev pub eight : Report → List ℕ
-eight r = r .number ∷ r .place ∷ r .rows ∷ r .text ∷ r .length ∷ r .lines ∷ r .longest ∷ r .tests ∷ []
+eight r =
+    let c : Counts = r .counts in
+    r .number ∷ r .place ∷ c .rows ∷ c .text ∷ c .length ∷ c .lines ∷ c .longest ∷ c .tests ∷ []
 
 -- a report put over the first eight words; fewer than eight stay as they are
 unfoldable pub put : List ℕ → Report → List ℕ

@@ -1,62 +1,52 @@
 // The calls as C functions, for `rt staticlib lister_c`. A slice is a pointer and a length in elements. Each call returns the refusal
 // number, 0 for none, and fills the first eight words of `out`; an `out` that is shorter than eight is left as it is.
+use layout::Counts;
 use layout::Laid;
 use lister::Answer;
-use pool::Verdict;
+use pool_check::Verdict;
 ghost use mathlib.Core.Path.{_≡_};
-ghost use Rattle.pool.specs.Check.{verdict};
 ghost use Rattle.layout.specs.Call.{outcome};
+ghost use Rattle.basics.specs.Lent.{was, left};
+ghost use Rattle.lister.specs.Source.{judged};
 ghost use Rattle.lister.specs.Prints.{printExpr, printDeclar};
-ghost use Rattle.lister_c.specs.Reports.{put, ofVerdict, ofLaid, ofAnswer, checked, laid, printed};
+ghost use Rattle.lister.specs.Frames.{given};
+ghost use Rattle.lister_c.specs.Reports.{put, ofVerdict, ofLaid, ofAnswer};
+ghost use Rattle.lister_c.specs.Frames.{Checks, LaysOut, Prints};
 
 // What a call reports, in the order of `out`; what does not apply is 0.
 pub struct Report {
     pub number: u32,
-    pub place: u64,
-    pub rows: u64,
-    pub text: u64,
-    pub length: u64,
-    pub lines: u64,
-    pub longest: u64,
-    pub tests: u64,
+    pub place: usize,
+    pub counts: Counts,
 }
 
 // A report with no counts.
 fn refusal(number: u32, place: usize) -> Report
     ensures { λ v. ⌜ v ≡ Rattle.lister_c.specs.Reports.refusal number place ⌝ }
 {
-    Report {
-        number,
-        place: place as u64,
+    let counts = Counts {
         rows: 0,
         text: 0,
         length: 0,
         lines: 0,
         longest: 0,
         tests: 0,
+    };
+    Report {
+        number,
+        place,
+        counts,
     }
 }
 
 // The report of a call that no number refuses.
-fn counts(
-    rows: usize,
-    text: usize,
-    length: usize,
-    lines: usize,
-    longest: usize,
-    tests: usize,
-) -> Report
-    ensures { λ v. ⌜ v ≡ Rattle.lister_c.specs.Reports.counts rows text length lines longest tests ⌝ }
+fn success(counts: Counts) -> Report
+    ensures { λ v. ⌜ v ≡ Rattle.lister_c.specs.Reports.success counts ⌝ }
 {
     Report {
         number: 0,
         place: 0,
-        rows: rows as u64,
-        text: text as u64,
-        length: length as u64,
-        lines: lines as u64,
-        longest: longest as u64,
-        tests: tests as u64,
+        counts,
     }
 }
 
@@ -76,14 +66,7 @@ fn of_laid(v: Laid) -> Report
     ensures { λ r. ⌜ r ≡ ofLaid v ⌝ }
 {
     match v {
-        Laid::Done {
-            rows,
-            text,
-            length,
-            lines,
-            longest,
-            tests,
-        } => counts(rows, text, length, lines, longest, tests),
+        Laid::Done { counts } => success(counts),
         Laid::Document { row } => refusal(9, row),
         Laid::Width => refusal(6, 0),
         Laid::Listing => refusal(22, 0),
@@ -94,18 +77,8 @@ fn of_answer(v: Answer) -> Report
     ensures { λ r. ⌜ r ≡ ofAnswer v ⌝ }
 {
     match v {
-        Answer::Done {
-            rows,
-            text,
-            length,
-            lines,
-            longest,
-            tests,
-        } => counts(rows, text, length, lines, longest, tests),
-        Answer::Words => refusal(1, 0),
-        Answer::Limit => refusal(2, 0),
-        Answer::Strings { row } => refusal(3, row),
-        Answer::Rows { row } => refusal(4, row),
+        Answer::Done { counts } => success(counts),
+        Answer::Pool { verdict } => of_verdict(verdict),
         Answer::Root => refusal(5, 0),
         Answer::Size => refusal(6, 0),
         Answer::Names { row } => refusal(7, row),
@@ -118,27 +91,28 @@ fn of_answer(v: Answer) -> Report
 
 // Puts a report over the first eight words.
 fn fill(out: &mut [u64], r: Report)
-    ensures { λ _. ⌜ now (out .exit) ≡ put (now (out .entry)) r ⌝ }
+    ensures { λ _. ⌜ left out ≡ put (was out) r ⌝ }
 {
     if out.len() < 8 {
         return;
     }
+    let c = r.counts;
     out[0] = r.number as u64;
-    out[1] = r.place;
-    out[2] = r.rows;
-    out[3] = r.text;
-    out[4] = r.length;
-    out[5] = r.lines;
-    out[6] = r.longest;
-    out[7] = r.tests;
+    out[1] = r.place as u64;
+    out[2] = c.rows as u64;
+    out[3] = c.text as u64;
+    out[4] = c.length as u64;
+    out[5] = c.lines as u64;
+    out[6] = c.longest as u64;
+    out[7] = c.tests as u64;
 }
 
 // Whether a pool is accepted.
 #[no_mangle]
 pub extern "C" fn tilusorgu_check(bytes: &[u8], words: &[u32], out: &mut [u64]) -> u32
-    ensures { λ v. ⌜ record { number = v; out = now (out .exit) } ≡ checked (verdict (now (bytes .entry)) (now (words .entry))) (now (out .entry)) ⌝ }
+    ensures { λ v. ⌜ Checks out v (judged (given bytes words)) ⌝ }
 {
-    let report = of_verdict(pool::check(bytes, words));
+    let report = of_verdict(pool_check::check(bytes, words));
     fill(out, report);
     report.number
 }
@@ -154,7 +128,7 @@ pub extern "C" fn tilusorgu_layout(
     listing: &mut [u8],
     out: &mut [u64],
 ) -> u32
-    ensures { λ v. ⌜ record { number = v; listing = now (listing .exit); out = now (out .exit) } ≡ laid (outcome (now (rows .entry)) count (now (text .entry)) total width (now (listing .entry))) (now (out .entry)) ⌝ }
+    ensures { λ v. ⌜ LaysOut listing out v (outcome (was rows) count (was text) total width) ⌝ }
 {
     let report = of_laid(layout::layout(
         rows,
@@ -181,7 +155,7 @@ pub extern "C" fn tilusorgu_print_expr(
     listing: &mut [u8],
     out: &mut [u64],
 ) -> u32
-    ensures { λ v. ⌜ record { number = v; areas = record { rows = now (rows .exit); text = now (text .exit); listing = now (listing .exit) }; out = now (out .exit) } ≡ printed (printExpr (now (bytes .entry)) (now (words .entry)) root indent width (record { rows = now (rows .entry); text = now (text .entry); listing = now (listing .entry) })) (now (out .entry)) ⌝ }
+    ensures { λ v. ⌜ Prints rows text listing out v (printExpr (given bytes words) root indent width) ⌝ }
 {
     let report = of_answer(lister::print_expr(
         bytes,
@@ -210,7 +184,7 @@ pub extern "C" fn tilusorgu_print_declar(
     listing: &mut [u8],
     out: &mut [u64],
 ) -> u32
-    ensures { λ v. ⌜ record { number = v; areas = record { rows = now (rows .exit); text = now (text .exit); listing = now (listing .exit) }; out = now (out .exit) } ≡ printed (printDeclar (now (bytes .entry)) (now (words .entry)) root indent width (record { rows = now (rows .entry); text = now (text .entry); listing = now (listing .entry) })) (now (out .entry)) ⌝ }
+    ensures { λ v. ⌜ Prints rows text listing out v (printDeclar (given bytes words) root indent width) ⌝ }
 {
     let report = of_answer(lister::print_declar(
         bytes,

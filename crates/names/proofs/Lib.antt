@@ -1,5 +1,2 @@
-pub mod Emitting
 pub mod Rows
 pub mod Texts
-pub mod Universes
-pub mod WordTable

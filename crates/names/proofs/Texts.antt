@@ -13,11 +13,11 @@ use Rattle.document.specs.declared.sink.Sink.{Sink}
 use Rattle.document.specs.Sink.{State, sinkOf, stoppedAt, putByte, putBytes, putText, putJoin, emit}
 use Rattle.document.specs.Sink.State.{state}
 use Rattle.pool.specs.Tree.{Name, anonymous, string, number}
-use Rattle.names.specs.Docs.{quoted, digits}
+use Rattle.pieces.specs.Docs.{quoted, digits}
 use Rattle.names.specs.Names.{dotted, nameText, isAnonymous, hasOdd, nameDoc, isHygienic}
 use Rattle.names.specs.Components.{prefixOf, component, isNumber, isOdd, isHyg, putDot}
-use Rattle.names.proofs.Emitting.{byte-stopped, bytes-stopped, bytes-append}
-use Rattle.names.proofs.WordTable.{same-eq}
+use Rattle.pieces.proofs.Emitting.{byte-stopped, bytes-stopped, bytes-append}
+use Rattle.pieces.proofs.WordTable.{same-eq}
 
 absurd-bool : {P : Type 0} → _≡_ {A = Bool} true false → P
 absurd-bool q = absurd (let z : _≡_ {A = ℕ} 0 1 = cc in omega arith)
@@ -68,7 +68,9 @@ unfolding putByte
 byte-grows b (state rows text s) = go (eqb (s .stop) 0) (ltb (s .text) 65536) (ltb (s .text) (length text))
   where
     go : (x y z : Bool)
-        → s .text ≤ sinkOf (cond x (cond y (cond z (state rows (set text (s .text) b) (record { rows = s .rows; text = s .text + 1; stop = s .stop; place = s .place })) (state rows text (stoppedAt 21 (s .rows) s))) (state rows text (stoppedAt 8 (s .rows) s))) (state rows text s)) .text
+        → s .text ≤ sinkOf (cond x (cond y (cond z
+        (state rows (set text (s .text) b) (record { rows = s .rows; text = s .text + 1; stop = s .stop; place = s .place }))
+        (state rows text (stoppedAt 21 (s .rows) s))) (state rows text (stoppedAt 8 (s .rows) s))) (state rows text s)) .text
     go true true true = omega arith
     go true true false = omega arith
     go true false z = omega arith

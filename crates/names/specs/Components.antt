@@ -9,7 +9,7 @@ use Rattle.document.specs.Sink.{State, sinkOf, putByte}
 use Rattle.pool.specs.Tables.{stringAt}
 use Rattle.pool.specs.Tree.{Name, anonymous, string, number}
 use Rattle.pool.specs.Areas.{over}
-use Rattle.names.specs.Docs.{digits}
+use Rattle.pieces.specs.Docs.{digits}
 
 unfoldable pub prefixOf : Name → Name
 prefixOf anonymous = anonymous

@@ -1,9 +1,4 @@
-pub mod Docs
+-- what a reader must believe, in 01's order
 pub mod Names
-pub mod Levels
-pub mod Words
-pub mod Parens
-pub mod Ready
+-- what the contracts and the proofs speak of
 pub mod Components
-pub mod Counted
-pub mod Tiles

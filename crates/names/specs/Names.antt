@@ -6,7 +6,7 @@ use Rattle.utf8.specs.Quoted.{bytes}
 use Rattle.utf8.specs.Letterlike.{plain, sameBytes}
 use Rattle.document.specs.Walk.{Marked, textᵐ}
 use Rattle.pool.specs.Tree.{Name, anonymous, string, number}
-use Rattle.names.specs.Docs.{_⊹_, quoted, digits}
+use Rattle.pieces.specs.Docs.{_⊹_, quoted, digits}
 
 -- "Components are joined by "."; none is put after an empty prefix text."
 unfoldable pub dotted : List ℕ → List ℕ → List ℕ

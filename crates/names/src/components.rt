@@ -1,26 +1,31 @@
 // The rows of names: what the last component is, and the row of the name before it.
 // Each function takes the whole pool, also where it reads a part, so that all contracts have one shape.
-use crate::digits::put_digits;
+use basics::bools::both;
 use document::sink::Sink;
 use document::sink::put_byte;
 use document::sink::put_bytes;
+use pieces::digits::put_digits;
+use pool::fields::name_high;
+use pool::fields::name_kind;
+use pool::fields::name_low;
+use pool::fields::name_prefix;
+use pool::kinds::NAME_ANONYMOUS;
+use pool::kinds::NAME_NUMBER;
+use pool::kinds::NAME_STRING;
 use pool::tables::Tables;
-use pool::tables::name_word;
 use pool::tables::string_word;
-use utf8::bools::both;
 use utf8::letterlike::ok_str;
 ghost use mathlib.Core.Path.{_≡_};
-ghost use mathlib.Core.Bool.{true, false};
+ghost use mathlib.Core.Bool.{false};
 ghost use Prim.Native.Nat.{_+_, _<_, _≤_};
 ghost use lib.ListN.{length};
 ghost use Rattle.utf8.specs.Quoted.{bytes as quotedBytes};
 ghost use Rattle.utf8.specs.Letterlike.{sameBytes};
-ghost use Rattle.document.specs.Sink.{State, putBytes};
-ghost use Rattle.document.specs.Sink.State.{state};
+ghost use Rattle.document.specs.Sink.{Leaves, putBytes};
 ghost use Rattle.pool.specs.Tables.{N, stringWord};
 ghost use Rattle.pool.specs.Unfold.{nameAt};
-ghost use Rattle.pool.specs.Areas.{over};
-ghost use Rattle.names.specs.Ready.{Ready};
+ghost use Rattle.pool.specs.Areas.{lent, given};
+ghost use Rattle.pool.specs.Ready.{Ready};
 ghost use Rattle.names.specs.Names.{isAnonymous};
 ghost use Rattle.names.specs.Components.{prefixOf, component, isNumber, isOdd, isHyg, putDot, stringIn};
 
@@ -36,35 +41,36 @@ pub fn read_string<'a>(bytes: &'a [u8], names: &[u32], r: usize) -> &'a [u8]
 
 pub fn is_anonymous(bytes: &[u8], names: &[u32], words: &[u32], t: Tables, r: usize) -> bool
     requires { ⌜ (Ready (now bytes) (now names) (now words) t) × (r < N (now names)) ⌝ }
-    ensures { λ v. ⌜ v ≡ isAnonymous (nameAt (over (now (bytes .entry)) (now (names .entry)) (now (words .entry))) r) ⌝ }
+    ensures { λ v. ⌜ v ≡ isAnonymous (nameAt (lent bytes names words) r) ⌝ }
 {
-    name_word(names, t, r, 0) == 0
+    name_kind(names, t, r) == NAME_ANONYMOUS
 }
 
 pub fn is_number(bytes: &[u8], names: &[u32], words: &[u32], t: Tables, r: usize) -> bool
     requires { ⌜ (Ready (now bytes) (now names) (now words) t) × (r < N (now names)) ⌝ }
-    ensures { λ v. ⌜ v ≡ isNumber (nameAt (over (now (bytes .entry)) (now (names .entry)) (now (words .entry))) r) ⌝ }
+    ensures { λ v. ⌜ v ≡ isNumber (nameAt (lent bytes names words) r) ⌝ }
 {
-    name_word(names, t, r, 0) == 2
+    name_kind(names, t, r) == NAME_NUMBER
 }
 
 // The row of the name before the last component.
 pub fn prefix_of(bytes: &[u8], names: &[u32], words: &[u32], t: Tables, r: usize) -> usize
-    requires { ⌜ (Ready (now bytes) (now names) (now words) t) × (r < N (now names)) × (isAnonymous (nameAt (over (now bytes) (now names) (now words)) r) ≡ false) ⌝ }
-    ensures { λ v. ⌜ (nameAt (over (now (bytes .entry)) (now (names .entry)) (now (words .entry))) v ≡ prefixOf (nameAt (over (now (bytes .entry)) (now (names .entry)) (now (words .entry))) r)) × (v < r) ⌝ }
+    requires { ⌜ (Ready (now bytes) (now names) (now words) t) × (r < N (now names))
+        × (isAnonymous (nameAt (given bytes names words) r) ≡ false) ⌝ }
+    ensures { λ v. ⌜ (nameAt (lent bytes names words) v ≡ prefixOf (nameAt (lent bytes names words) r)) × (v < r) ⌝ }
 {
-    name_word(names, t, r, 1)
+    name_prefix(names, t, r)
 }
 
 // Whether the last component is a string that needs « ».
 pub fn is_odd(bytes: &[u8], names: &[u32], words: &[u32], t: Tables, r: usize) -> bool
     requires { ⌜ (Ready (now bytes) (now names) (now words) t) × (r < N (now names)) ⌝ }
-    ensures { λ v. ⌜ v ≡ isOdd (nameAt (over (now (bytes .entry)) (now (names .entry)) (now (words .entry))) r) ⌝ }
+    ensures { λ v. ⌜ v ≡ isOdd (nameAt (lent bytes names words) r) ⌝ }
 {
-    if name_word(names, t, r, 0) != 1 {
+    if name_kind(names, t, r) != NAME_STRING {
         return false;
     }
-    let string = name_word(names, t, r, 2);
+    let string = name_low(names, t, r);
     !ok_str(read_string(bytes, names, string))
 }
 
@@ -84,12 +90,12 @@ fn is_hyg_text(s: &[u8]) -> bool
 // Whether the last component is "_hyg".
 pub fn is_hyg(bytes: &[u8], names: &[u32], words: &[u32], t: Tables, r: usize) -> bool
     requires { ⌜ (Ready (now bytes) (now names) (now words) t) × (r < N (now names)) ⌝ }
-    ensures { λ v. ⌜ v ≡ isHyg (nameAt (over (now (bytes .entry)) (now (names .entry)) (now (words .entry))) r) ⌝ }
+    ensures { λ v. ⌜ v ≡ isHyg (nameAt (lent bytes names words) r) ⌝ }
 {
-    if name_word(names, t, r, 0) != 1 {
+    if name_kind(names, t, r) != NAME_STRING {
         return false;
     }
-    let string = name_word(names, t, r, 2);
+    let string = name_low(names, t, r);
     is_hyg_text(read_string(bytes, names, string))
 }
 
@@ -104,20 +110,21 @@ pub fn put_component(
     s: Sink,
     r: usize,
 ) -> Sink
-    requires { ⌜ (Ready (now bytes) (now names) (now words) t) × (r < N (now names)) × (isAnonymous (nameAt (over (now bytes) (now names) (now words)) r) ≡ false) ⌝ }
-    ensures { λ v. ⌜ state (now (rows .exit)) (now (text .exit)) v ≡ putBytes (component (nameAt (over (now (bytes .entry)) (now (names .entry)) (now (words .entry))) r)) (state (now (rows .entry)) (now (text .entry)) s) ⌝ }
+    requires { ⌜ (Ready (now bytes) (now names) (now words) t) × (r < N (now names))
+        × (isAnonymous (nameAt (given bytes names words) r) ≡ false) ⌝ }
+    ensures { λ v. ⌜ Leaves rows text s v (putBytes (component (nameAt (lent bytes names words) r))) ⌝ }
 {
-    let low = name_word(names, t, r, 2);
-    if name_word(names, t, r, 0) == 1 {
+    let low = name_low(names, t, r);
+    if name_kind(names, t, r) == NAME_STRING {
         return put_bytes(rows, text, s, read_string(bytes, names, low));
     }
-    let high = name_word(names, t, r, 3);
+    let high = name_high(names, t, r);
     put_digits(rows, text, s, (low + high * 4294967296) as u64)
 }
 
 // A dot, unless the text is as long as it was, at `from`: none after an empty prefix. (Where the sink has stopped, a dot adds nothing.)
 pub fn put_dot(rows: &mut [u32], text: &mut [u8], s: Sink, from: usize) -> Sink
-    ensures { λ v. ⌜ state (now (rows .exit)) (now (text .exit)) v ≡ putDot from (state (now (rows .entry)) (now (text .entry)) s) ⌝ }
+    ensures { λ v. ⌜ Leaves rows text s v (putDot from) ⌝ }
 {
     if s.text == from {
         return s;

@@ -1,8 +1,4 @@
-// Names and levels to documents, and the pieces that every document is made of.
+// Names, constants and literals to documents.
 pub mod components;
-pub mod digits;
-pub mod levels;
 pub mod literals;
 pub mod names;
-pub mod parens;
-pub mod words;

@@ -1,24 +1,23 @@
 // Constants and literals to documents.
 use crate::components::read_string;
 use crate::names::pp_name_safe;
-use crate::words::AT;
-use crate::words::QUOTE;
-use crate::words::join_word;
-use crate::words::put_word;
 use document::sink::Sink;
 use document::sink::put_join;
 use document::sink::put_text;
+use pieces::words::AT;
+use pieces::words::QUOTE;
+use pieces::words::join_word;
+use pieces::words::put_word;
 use pool::tables::Tables;
 ghost use mathlib.Core.Path.{_≡_};
 ghost use Prim.Native.Nat.{_<_};
-ghost use Rattle.document.specs.Walk.{Marked, textᵐ};
-ghost use Rattle.document.specs.Sink.{State, emit};
-ghost use Rattle.document.specs.Sink.State.{state};
+ghost use Rattle.document.specs.Walk.{textᵐ};
+ghost use Rattle.document.specs.Sink.{Leaves, emit};
 ghost use Rattle.pool.specs.Tables.{S, N, stringAt};
 ghost use Rattle.pool.specs.Unfold.{nameAt};
-ghost use Rattle.pool.specs.Areas.{over};
-ghost use Rattle.names.specs.Ready.{Ready};
-ghost use Rattle.names.specs.Docs.{_⊹_, quoted};
+ghost use Rattle.pool.specs.Areas.{lent};
+ghost use Rattle.pool.specs.Ready.{Ready};
+ghost use Rattle.pieces.specs.Docs.{_⊹_, quoted};
 ghost use Rattle.names.specs.Names.{nameDoc};
 
 // The constant of name row r.
@@ -33,11 +32,11 @@ pub fn pp_const(
     r: usize,
 ) -> Sink
     requires { ⌜ (Ready (now bytes) (now names) (now words) t) × (r < N (now names)) ⌝ }
-    ensures { λ v. ⌜ state (now (rows .exit)) (now (text .exit)) v ≡ emit (quoted "@" ⊹ nameDoc (nameAt (over (now (bytes .entry)) (now (names .entry)) (now (words .entry))) r)) (state (now (rows .entry)) (now (text .entry)) s) ⌝ }
+    ensures { λ v. ⌜ Leaves rows text s v (emit (quoted "@" ⊹ nameDoc (nameAt (lent bytes names words) r))) ⌝ }
 {
-    let at = put_word(rows, text, s, AT);
-    let name = pp_name_safe(bytes, names, words, t, rows, text, at, r);
-    put_join(rows, text, name)
+    let s = put_word(rows, text, s, AT);
+    let s = pp_name_safe(bytes, names, words, t, rows, text, s, r);
+    put_join(rows, text, s)
 }
 
 // The natural whose digits are string row r.
@@ -52,7 +51,7 @@ pub fn pp_nat(
     r: usize,
 ) -> Sink
     requires { ⌜ (Ready (now bytes) (now names) (now words) t) × (r < S (now names)) ⌝ }
-    ensures { λ v. ⌜ state (now (rows .exit)) (now (text .exit)) v ≡ emit (textᵐ (stringAt (over (now (bytes .entry)) (now (names .entry)) (now (words .entry))) r)) (state (now (rows .entry)) (now (text .entry)) s) ⌝ }
+    ensures { λ v. ⌜ Leaves rows text s v (emit (textᵐ (stringAt (lent bytes names words) r))) ⌝ }
 {
     put_text(rows, text, s, read_string(bytes, names, r))
 }
@@ -69,10 +68,10 @@ pub fn pp_string(
     r: usize,
 ) -> Sink
     requires { ⌜ (Ready (now bytes) (now names) (now words) t) × (r < S (now names)) ⌝ }
-    ensures { λ v. ⌜ state (now (rows .exit)) (now (text .exit)) v ≡ emit (quoted "\"" ⊹ textᵐ (stringAt (over (now (bytes .entry)) (now (names .entry)) (now (words .entry))) r) ⊹ quoted "\"") (state (now (rows .entry)) (now (text .entry)) s) ⌝ }
+    ensures { λ v. ⌜ Leaves rows text s v (emit (quoted "\"" ⊹ textᵐ (stringAt (lent bytes names words) r) ⊹ quoted "\"")) ⌝ }
 {
-    let opened = put_word(rows, text, s, QUOTE);
-    let raw = pp_nat(bytes, names, words, t, rows, text, opened, r);
-    let joined = put_join(rows, text, raw);
-    join_word(rows, text, joined, QUOTE)
+    let s = put_word(rows, text, s, QUOTE);
+    let s = pp_nat(bytes, names, words, t, rows, text, s, r);
+    let s = put_join(rows, text, s);
+    join_word(rows, text, s, QUOTE)
 }

@@ -1,21 +1,19 @@
 -- The tree of an expression row in a sound pool: its node over the trees of lower rows; the words for depth and loose are the tree's.
-use Prim.Native.Nat.{ℕ, zero, suc, _+_, _-_, _*_, _≤_, _<_, max}
+use Prim.Native.Nat.{ℕ, zero, suc, _-_, _≤_, _<_, max}
 use native.Mathlib.Omega.{arith}
-use native.Mathlib.Numerals.{add-one, one-add}
-use mathlib.Core.Bool.{Bool, true, false, _&&_, cond}
-use mathlib.Core.List.{List, [], _∷_}
+use native.Mathlib.Numerals.{one-add}
+use mathlib.Core.Bool.{true, _&&_}
 use mathlib.Core.Path.{_≡_, refl, sym, ap, ap₂, _∙_, subst}
-use lib.ListN.{length, getD}
 use lib.Dec.{leb, ltb, eqb}
 use borrow.Author.Tests.{ltb-true, leb-true, eqb-true}
-use Rattle.pool.specs.Tables.{Pool, S, N, L, K, Q, E, nameWord, levelWord, listWord, listEntry, exprWord, stringWord, stringAt}
-use Rattle.pool.specs.Kinds.{NameKind, nameKind, anonymousᵏ, stringᵏ, numberᵏ, noNameᵏ, LevelKind, levelKind, zeroᵏ, succᵏ, maxᵏ, imaxᵏ, paramᵏ, noLevelᵏ, ExprKind, exprKind, varᵏ, sortᵏ, constᵏ, appᵏ, piᵏ, lamᵏ, letᵏ, projᵏ, natᵏ, strᵏ, noExprᵏ}
-use Rattle.pool.specs.Tree.{Name, Level, Expr, var, sort, const, app, pi, lam, letᵉ, proj, nat, str, depth, loose, shape}
+use Rattle.pool.specs.Tables.{Pool, S, N, L, K, E, exprWord, stringAt}
+use Rattle.pool.specs.Kinds.{ExprKind, exprKind, varᵏ, sortᵏ, constᵏ, appᵏ, piᵏ, lamᵏ, letᵏ, projᵏ, natᵏ, strᵏ, noExprᵏ}
+use Rattle.pool.specs.Tree.{Expr, var, sort, const, app, pi, lam, letᵉ, proj, nat, str, depth, loose, shape}
 use Rattle.pool.specs.Unfold.{nameAt, levelAt, listAt, exprNode, exprTo, exprAt}
-use Rattle.pool.specs.Rules.{exprFieldsOk, depthBy, looseBy, exprOk, unused}
+use Rattle.pool.specs.Rules.{exprFieldsOk, depthBy, looseBy, exprOk}
 use Rattle.pool.specs.Sound.{Sound}
-use Rattle.pool.proofs.Scan.{and-left, and-right}
-use Rattle.pool.proofs.TreeLaws.{label, true-false}
+use Rattle.basics.proofs.Booleans.{and-left, and-right, false-true}
+use Rattle.pool.proofs.TreeLaws.{label}
 use Rattle.pool.proofs.Unfolds.{ExprsKept}
 
 -- ---- what a row's fields are, by its kind
@@ -60,15 +58,7 @@ module _ (p : Pool) (r : ℕ) where
 
   pub lam-fields : exprFieldsOk p r lamᵏ ≡ true → (word 1 < N (p .names)) × (word 2 < 4) × (word 3 < r) × (word 4 < r)
   unfolding exprFieldsOk
-  lam-fields ok =
-      let ok2 = and-right (ltb (word 1) (N (p .names))) _ ok in
-      let ok3 = and-right (ltb (word 2) 4) _ ok2 in
-      let ok4 = and-right (ltb (word 3) r) _ ok3 in (
-        ltb-true (word 1) (N (p .names)) (and-left (ltb (word 1) (N (p .names))) _ ok),
-        ltb-true (word 2) 4 (and-left (ltb (word 2) 4) _ ok2),
-        ltb-true (word 3) r (and-left (ltb (word 3) r) _ ok3),
-        ltb-true (word 4) r (and-left (ltb (word 4) r) _ ok4),
-      )
+  lam-fields ok = pi-fields ok
 
   pub let-fields : exprFieldsOk p r letᵏ ≡ true → (word 1 < N (p .names)) × (word 2 < r) × (word 3 < r) × (word 4 < r) × (word 5 < 2)
   unfolding exprFieldsOk
@@ -104,7 +94,7 @@ module _ (p : Pool) (r : ℕ) where
   -- a row that keeps its rules is of one of the ten kinds
   pub kind-known : exprFieldsOk p r noExprᵏ ≡ true → ⊥
   unfolding exprFieldsOk
-  kind-known ok = true-false false ok refl
+  kind-known ok = false-true ok
 
 -- ---- unfolding does not depend on the bound
 

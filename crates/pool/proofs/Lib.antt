@@ -1,8 +1,6 @@
-pub mod Scan
-pub mod Decide
+pub mod Clips
+pub mod TableWords
 pub mod Unfolds
-pub mod Verdicts
-pub mod Acceptance
 pub mod TreeLaws
 pub mod ExprUnfolds
 pub mod RowUnfolds

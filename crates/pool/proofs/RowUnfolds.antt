@@ -1,20 +1,19 @@
 -- Name rows, level rows and lists of a sound pool: each kind's fields, and its tree over the trees of lower rows.
-use Prim.Native.Nat.{ℕ, zero, suc, _+_, _-_, _*_, _^_, _≤_, _<_, max}
+use Prim.Native.Nat.{ℕ, zero, suc, _+_, _*_, _^_, _≤_, _<_}
 use native.Mathlib.Omega.{arith}
-use mathlib.Core.Bool.{Bool, true, false, _&&_, cond}
-use mathlib.Core.List.{List, [], _∷_}
-use mathlib.Core.Path.{_≡_, refl, sym, ap, ap₂, _∙_, subst}
-use lib.ListN.{length, getD}
-use lib.Dec.{leb, ltb, eqb}
+use mathlib.Core.Bool.{true}
+use mathlib.Core.Path.{_≡_, refl, sym, ap, _∙_, subst}
+use lib.ListN.{length}
+use lib.Dec.{leb, ltb}
 use borrow.Author.Tests.{ltb-true, leb-true, eqb-true}
 use Rattle.pool.specs.Tables.{Pool, S, N, L, K, Q, nameWord, levelWord, listWord, listEntry, stringWord, stringAt}
-use Rattle.pool.specs.Kinds.{nameKind, anonymousᵏ, stringᵏ, numberᵏ, noNameᵏ, levelKind, zeroᵏ, succᵏ, maxᵏ, imaxᵏ, paramᵏ, noLevelᵏ}
-use Rattle.pool.specs.Tree.{Name, anonymous, string, number, Level, zeroˡ, succˡ, maxˡ, imaxˡ, paramˡ, nameDepth, levelDepth, nameShape, levelShape}
-use Rattle.pool.specs.Unfold.{nameNode, nameAt, levelNode, levelAt, levelsFrom, listAt}
+use Rattle.pool.specs.Kinds.{nameKind, stringᵏ, levelKind, maxᵏ, imaxᵏ}
+use Rattle.pool.specs.Tree.{Name, anonymous, string, number, Level, zeroˡ, succˡ, maxˡ, imaxˡ, paramˡ, nameDepth, nameShape, levelShape}
+use Rattle.pool.specs.Unfold.{nameNode, nameAt, levelNode, levelAt}
 use Rattle.pool.specs.Rules.{nameFieldsOk, nameOk, levelFieldsOk, levelOk, listOk, listEntryOk, stringOk}
 use Rattle.pool.specs.Sound.{Sound}
-use Rattle.pool.proofs.Scan.{and-left, and-right}
-use Rattle.pool.proofs.TreeLaws.{label, true-false}
+use Rattle.basics.proofs.Booleans.{and-left, and-right, false-true}
+use Rattle.pool.proofs.TreeLaws.{label}
 use Rattle.pool.proofs.Unfolds.{NamesKept, LevelsKept, name-unfolds, level-unfolds}
 
 pub name-kept : (p : Pool) → Sound p → NamesKept p (N (p .names))
@@ -24,6 +23,37 @@ name-kept p sound j h = and-left (nameFieldsOk (p .names) j (nameKind (nameWord 
 pub level-kept : (p : Pool) → Sound p → LevelsKept p (L (p .words))
 unfolding levelOk
 level-kept p sound j h = and-left (levelFieldsOk p j (levelKind (levelWord (p .words) j 0))) _ (sound .levels j h)
+
+-- a string row lies in the byte area
+abbrev pub StringFits : Pool → ℕ → Type 0
+StringFits p r = stringWord (p .names) r 0 + stringWord (p .names) r 1 ≤ length (p .bytes)
+
+pub string-fits : (p : Pool) → Sound p → (r : ℕ) → r < S (p .names) → StringFits p r
+unfolding stringOk
+string-fits p sound r h =
+    leb-true _ (length (p .bytes))
+    (and-left (leb (stringWord (p .names) r 0 + stringWord (p .names) r 1) (length (p .bytes))) _ (sound .strings r h))
+
+-- ---- names
+
+-- a name row by its kind: that what it refers to is there, and its tree
+pub data NameRow (p : Pool) (r : ℕ) : Type 0 where
+  is-anonymous : nameWord (p .names) r 0 ≡ 0 → nameAt p r ≡ anonymous → NameRow p r
+  is-string : nameWord (p .names) r 0 ≡ 1 → nameWord (p .names) r 1 < r → StringFits p (nameWord (p .names) r 2)
+      → nameAt p r ≡ string (nameAt p (nameWord (p .names) r 1)) (stringAt p (nameWord (p .names) r 2)) → NameRow p r
+  is-number : nameWord (p .names) r 0 ≡ 2 → nameWord (p .names) r 1 < r
+      → nameAt p r ≡ number (nameAt p (nameWord (p .names) r 1)) (nameWord (p .names) r 2 + nameWord (p .names) r 3 * 2 ^ 32) → NameRow p r
+
+name-kind-of : {p : Pool} {r : ℕ} → NameRow p r → nameWord (p .names) r 0 < 3
+name-kind-of (is-anonymous k e) = omega arith
+name-kind-of (is-string k l f e) = omega arith
+name-kind-of (is-number k l e) = omega arith
+
+name-label-of : {p : Pool} {r : ℕ} → NameRow p r → label (nameShape (nameAt p r)) ≡ nameWord (p .names) r 0
+unfolding nameShape label
+name-label-of (is-anonymous k e) = ap (λ (n : Name). label (nameShape n)) e ∙ sym k
+name-label-of (is-string k l f e) = ap (λ (n : Name). label (nameShape n)) e ∙ sym k
+name-label-of (is-number k l e) = ap (λ (n : Name). label (nameShape n)) e ∙ sym k
 
 module _ (p : Pool) (sound : Sound p) (r : ℕ) (h : r < N (p .names)) where
   abbrev nw : ℕ → ℕ
@@ -58,30 +88,53 @@ module _ (p : Pool) (sound : Sound p) (r : ℕ) (h : r < N (p .names)) where
   unfolding nameKind nameFieldsOk
   number-ok e = ltb-true (nw 1) r (name-kept-at 2 e)
 
-  name-kind-below : (k : ℕ) → nameFieldsOk (p .names) r (nameKind k) ≡ true → k < 3
+  name-row-of : (k : ℕ) → nw 0 ≡ k → nameFieldsOk (p .names) r (nameKind k) ≡ true → NameRow p r
   unfolding nameKind nameFieldsOk
-  name-kind-below zero ok = omega arith
-  name-kind-below (suc zero) ok = omega arith
-  name-kind-below (suc (suc zero)) ok = omega arith
-  name-kind-below (suc (suc (suc k))) ok = absurd (true-false false ok refl)
+  name-row-of zero e ok = is-anonymous e (anonymous-at e)
+  name-row-of (suc zero) e ok = is-string e (string-ok e .0) (string-fits p sound (nw 2) (string-ok e .1)) (string-at e)
+  name-row-of (suc (suc zero)) e ok = is-number e (number-ok e) (number-at e)
+  name-row-of (suc (suc (suc k))) e ok = false-true ok
+
+  pub name-row : NameRow p r
+  name-row = name-row-of (nw 0) refl (name-kept p sound r h)
 
   pub name-kind-small : nw 0 < 3
-  name-kind-small = name-kind-below (nw 0) (name-kept p sound r h)
-
-  name-label-node : (k : ℕ) → nameFieldsOk (p .names) r (nameKind k) ≡ true → label (nameShape (nameNode p (nameAt p) r (nameKind k))) ≡ k
-  unfolding nameKind nameFieldsOk nameNode nameShape label
-  name-label-node zero ok = refl
-  name-label-node (suc zero) ok = refl
-  name-label-node (suc (suc zero)) ok = refl
-  name-label-node (suc (suc (suc k))) ok = absurd (true-false false ok refl)
+  name-kind-small = name-kind-of name-row
 
   pub name-label-word : label (nameShape (nameAt p r)) ≡ nw 0
-  name-label-word =
-      ap (λ (n : Name). label (nameShape n)) (name-node-at (nw 0) refl) ∙ name-label-node (nw 0) (name-kept p sound r h)
+  name-label-word = name-label-of name-row
 
   pub name-depth-small : nameDepth (nameAt p r) ≤ 64
   unfolding nameOk
   name-depth-small = leb-true _ 64 (and-right (nameFieldsOk (p .names) r (nameKind (nw 0))) _ (sound .names r h))
+
+-- ---- levels
+
+-- a level row by its kind; a successor's second word is 0
+pub data LevelRow (p : Pool) (r : ℕ) : Type 0 where
+  is-zero : levelWord (p .words) r 0 ≡ 0 → levelAt p r ≡ zeroˡ → LevelRow p r
+  is-succ : levelWord (p .words) r 0 ≡ 1 → levelWord (p .words) r 1 < r → levelAt p r ≡ succˡ (levelAt p (levelWord (p .words) r 1)) → LevelRow p r
+  is-max : levelWord (p .words) r 0 ≡ 2 → levelWord (p .words) r 1 < r → levelWord (p .words) r 2 < r
+      → levelAt p r ≡ maxˡ (levelAt p (levelWord (p .words) r 1)) (levelAt p (levelWord (p .words) r 2)) → LevelRow p r
+  is-imax : levelWord (p .words) r 0 ≡ 3 → levelWord (p .words) r 1 < r → levelWord (p .words) r 2 < r
+      → levelAt p r ≡ imaxˡ (levelAt p (levelWord (p .words) r 1)) (levelAt p (levelWord (p .words) r 2)) → LevelRow p r
+  is-param : levelWord (p .words) r 0 ≡ 4 → levelWord (p .words) r 1 < N (p .names)
+      → levelAt p r ≡ paramˡ (nameAt p (levelWord (p .words) r 1)) → LevelRow p r
+
+level-kind-of : {p : Pool} {r : ℕ} → LevelRow p r → levelWord (p .words) r 0 < 5
+level-kind-of (is-zero k e) = omega arith
+level-kind-of (is-succ k l e) = omega arith
+level-kind-of (is-max k l m e) = omega arith
+level-kind-of (is-imax k l m e) = omega arith
+level-kind-of (is-param k l e) = omega arith
+
+level-label-of : {p : Pool} {r : ℕ} → LevelRow p r → label (levelShape (levelAt p r)) ≡ levelWord (p .words) r 0
+unfolding levelShape label
+level-label-of (is-zero k e) = ap (λ (n : Level). label (levelShape n)) e ∙ sym k
+level-label-of (is-succ k l e) = ap (λ (n : Level). label (levelShape n)) e ∙ sym k
+level-label-of (is-max k l m e) = ap (λ (n : Level). label (levelShape n)) e ∙ sym k
+level-label-of (is-imax k l m e) = ap (λ (n : Level). label (levelShape n)) e ∙ sym k
+level-label-of (is-param k l e) = ap (λ (n : Level). label (levelShape n)) e ∙ sym k
 
 module _ (p : Pool) (sound : Sound p) (r : ℕ) (h : r < L (p .words)) where
   abbrev lw : ℕ → ℕ
@@ -137,30 +190,25 @@ module _ (p : Pool) (sound : Sound p) (r : ℕ) (h : r < L (p .words)) where
   unfolding levelKind levelFieldsOk
   param-ok e = ltb-true (lw 1) (N (p .names)) (and-left (ltb (lw 1) (N (p .names))) _ (level-kept-at 4 e))
 
-  level-kind-below : (k : ℕ) → levelFieldsOk p r (levelKind k) ≡ true → k < 5
+  level-row-of : (k : ℕ) → lw 0 ≡ k → levelFieldsOk p r (levelKind k) ≡ true → LevelRow p r
   unfolding levelKind levelFieldsOk
-  level-kind-below zero ok = omega arith
-  level-kind-below (suc zero) ok = omega arith
-  level-kind-below (suc (suc zero)) ok = omega arith
-  level-kind-below (suc (suc (suc zero))) ok = omega arith
-  level-kind-below (suc (suc (suc (suc zero)))) ok = omega arith
-  level-kind-below (suc (suc (suc (suc (suc k))))) ok = absurd (true-false false ok refl)
+  level-row-of zero e ok = is-zero e (zero-at e)
+  level-row-of (suc zero) e ok = is-succ e (succ-ok e) (succ-at e)
+  level-row-of (suc (suc zero)) e ok = is-max e (max-ok e .0) (max-ok e .1) (max-at e)
+  level-row-of (suc (suc (suc zero))) e ok = is-imax e (imax-ok e .0) (imax-ok e .1) (imax-at e)
+  level-row-of (suc (suc (suc (suc zero)))) e ok = is-param e (param-ok e) (param-at e)
+  level-row-of (suc (suc (suc (suc (suc k))))) e ok = false-true ok
+
+  pub level-row : LevelRow p r
+  level-row = level-row-of (lw 0) refl (level-kept p sound r h)
 
   pub level-kind-small : lw 0 < 5
-  level-kind-small = level-kind-below (lw 0) (level-kept p sound r h)
-
-  level-label-node : (k : ℕ) → levelFieldsOk p r (levelKind k) ≡ true → label (levelShape (levelNode p (levelAt p) r (levelKind k))) ≡ k
-  unfolding levelKind levelFieldsOk levelNode levelShape label
-  level-label-node zero ok = refl
-  level-label-node (suc zero) ok = refl
-  level-label-node (suc (suc zero)) ok = refl
-  level-label-node (suc (suc (suc zero))) ok = refl
-  level-label-node (suc (suc (suc (suc zero)))) ok = refl
-  level-label-node (suc (suc (suc (suc (suc k))))) ok = absurd (true-false false ok refl)
+  level-kind-small = level-kind-of level-row
 
   pub level-label-word : label (levelShape (levelAt p r)) ≡ lw 0
-  level-label-word =
-      ap (λ (l : Level). label (levelShape l)) (level-node-at (lw 0) refl) ∙ level-label-node (lw 0) (level-kept p sound r h)
+  level-label-word = level-label-of level-row
+
+-- ---- lists
 
 -- a list row lies in the list words, which are level rows
 pub list-fits : (p : Pool) → Sound p → (r : ℕ) → r < K (p .words) → listWord (p .words) r 0 + listWord (p .words) r 1 ≤ Q (p .words)
@@ -170,9 +218,3 @@ list-fits p sound r h = leb-true _ (Q (p .words)) (and-left (leb (listWord (p .w
 pub entry-fits : (p : Pool) → Sound p → (i : ℕ) → i < Q (p .words) → listEntry (p .words) i < L (p .words)
 unfolding listEntryOk
 entry-fits p sound i h = ltb-true (listEntry (p .words) i) (L (p .words)) (sound .entries i h)
-
--- a string row lies in the byte area
-pub string-fits : (p : Pool) → Sound p → (r : ℕ) → r < S (p .names)
-    → stringWord (p .names) r 0 + stringWord (p .names) r 1 ≤ length (p .bytes)
-unfolding stringOk
-string-fits p sound r h = leb-true _ (length (p .bytes)) (and-left (leb (stringWord (p .names) r 0 + stringWord (p .names) r 1) (length (p .bytes))) _ (sound .strings r h))

@@ -2,15 +2,16 @@
 -- that of what is left once places are forgotten.
 use Prim.Native.Nat.{ℕ, zero, suc, _+_, _-_, _<_, _≤_, max}
 use native.Mathlib.Omega.{arith}
-use mathlib.Core.Bool.{Bool, true, false, _&&_, _||_, cond}
+use mathlib.Core.Bool.{Bool, true, false, _||_, cond}
 use mathlib.Core.List.{List, [], _∷_}
 use mathlib.Core.Path.{_≡_, refl, sym, ap, ap₂, _∙_, subst}
-use lib.ListN.{getD}
-use lib.Dec.{ltb, leb, eqb, leb·suc-suc, eqb-refl}
+use lib.Dec.{ltb, leb, eqb}
 use borrow.Author.Tests.{ltb-true, ltb-false, leb-true, leb-false, eqb-true, eqb-false, lt-ltb, le-ltb, le-leb, lt-leb, eq-eqb, ne-eqb}
 use Rattle.utf8.specs.Letterlike.{sameBytes}
-use Rattle.pool.specs.Tree.{Name, anonymous, string, number, Level, zeroˡ, succˡ, maxˡ, imaxˡ, paramˡ, Expr, var, sort, const, app, pi, lam, letᵉ, proj, nat, str, forget, depth, loose, lift, occurs, Shape, node, Shapes, none, _and_, nameShape, levelShape, levelShapes, shape, sameShape, sameShapes, same}
-use Rattle.pool.proofs.Scan.{and-left, and-right}
+use Rattle.pool.specs.Tree.{Name, anonymous, string, number, Level, zeroˡ, succˡ, maxˡ, imaxˡ, paramˡ, Expr, var, sort, const, app, pi, lam, letᵉ, proj}
+use Rattle.pool.specs.Tree.{nat, str, forget, depth, loose, lift, occurs, Shape, node, Shapes, none, _and_, nameShape, levelShape, levelShapes, shape, sameShape}
+use Rattle.pool.specs.Tree.{sameShapes, same}
+use Rattle.basics.proofs.Booleans.{true-false, false-true, and-left, and-right, or-true, not-so}
 
 -- ---- lifting
 
@@ -162,29 +163,22 @@ none-above k (proj n i e) h = none-above k e h
 none-above k (nat s) h = refl
 none-above k (str s) h = refl
 
-pub true-false : (b : Bool) → b ≡ true → b ≡ false → ⊥
-true-false b p q = let z : _≡_ {A = ℕ} 0 1 = cc in omega arith
-
 pub occurs-below : (k : ℕ) (e : Expr) → occurs k e ≡ true → k < loose e
 occurs-below k e h = by (ltb k (loose e)) refl
   where
     by : (b : Bool) → ltb k (loose e) ≡ b → k < loose e
     by true q = ltb-true k (loose e) q
-    by false q = absurd (true-false (occurs k e) h (none-above k e (ltb-false k (loose e) q)))
+    by false q = true-false (sym h ∙ none-above k e (ltb-false k (loose e) q))
 
 -- the greater of two is one of them
 greater : (x y k : ℕ) (a b : Bool) → (x ≡ suc k → a ≡ true) → (y ≡ suc k → b ≡ true) → max x y ≡ suc k → a || b ≡ true
 greater x y k a b p q h = by (eqb x (suc k)) refl
   where
-    or-right : (c : Bool) → c || true ≡ true
-    or-right true = refl
-    or-right false = refl
-
     by : (c : Bool) → eqb x (suc k) ≡ c → a || b ≡ true
     by true e = rw (p (eqb-true x (suc k) e))
     by false e =
         let n : x ≡ suc k → ⊥ = eqb-false x (suc k) e in
-        rw (q (omega arith)) (or-right a)
+        rw (q (omega arith)) (or-true a)
 
 -- the greatest index below `loose` occurs
 pub greatest-occurs : (k : ℕ) (e : Expr) → loose e ≡ suc k → occurs k e ≡ true
@@ -300,8 +294,8 @@ lift-loose n c (str s) = sym (raised-zero n c)
 pub bytes-equal : (a b : List ℕ) → sameBytes a b ≡ true → a ≡ b
 unfolding sameBytes
 bytes-equal [] [] h = refl
-bytes-equal [] (y ∷ ys) h = absurd (true-false false h refl)
-bytes-equal (x ∷ xs) [] h = absurd (true-false false h refl)
+bytes-equal [] (y ∷ ys) h = false-true h
+bytes-equal (x ∷ xs) [] h = false-true h
 bytes-equal (x ∷ xs) (y ∷ ys) h =
     ap₂ (λ (z : ℕ) (zs : List ℕ). z ∷ zs) (eqb-true x y (and-left (eqb x y) _ h)) (bytes-equal xs ys (and-right (eqb x y) _ h))
 
@@ -324,8 +318,8 @@ mutual
 
   pub shapes-equal : (xs ys : Shapes) → sameShapes xs ys ≡ true → xs ≡ ys
   shapes-equal none none h = refl
-  shapes-equal none (y and ys) h = absurd (true-false false h refl)
-  shapes-equal (x and xs) none h = absurd (true-false false h refl)
+  shapes-equal none (y and ys) h = false-true h
+  shapes-equal (x and xs) none h = false-true h
   shapes-equal (x and xs) (y and ys) h =
       ap₂ _and_ (shape-equal x y (and-left (sameShape x y) _ h)) (shapes-equal xs ys (and-right (sameShape x y) _ h))
 
@@ -477,10 +471,6 @@ same-depth a b h = sym (forget-depth a) ∙ ap depth (same-forgets a b h) ∙ fo
 
 pub same-loose : (a b : Expr) → same a b ≡ true → loose a ≡ loose b
 same-loose a b h = sym (forget-loose a) ∙ ap loose (same-forgets a b h) ∙ forget-loose b
-
-pub not-so : (b : Bool) → (b ≡ true → ⊥) → b ≡ false
-not-so true h = absurd (h refl)
-not-so false h = refl
 
 pub differs-depth : (a b : Expr) → (depth a ≡ depth b → ⊥) → same a b ≡ false
 differs-depth a b h = not-so (same a b) (λ q. h (same-depth a b q))

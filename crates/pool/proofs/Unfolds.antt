@@ -1,23 +1,24 @@
 -- Unfolding does not depend on the bound once it is above the row, where references go to lower rows: so the tree of a row is
 -- its node over the trees of the rows it refers to.
-use Prim.Native.Nat.{ℕ, zero, suc, _+_, _-_, _*_, _^_, _≤_, _<_, max}
+use Prim.Native.Nat.{ℕ, zero, suc, _+_, _*_, _^_, _≤_, _<_, max}
 use native.Mathlib.Omega.{arith}
-use native.Mathlib.Numerals.{add-one, one-add}
-use mathlib.Core.Bool.{Bool, true, false, _&&_, cond}
-use mathlib.Core.List.{List, [], _∷_}
+use native.Mathlib.Numerals.{one-add}
+use mathlib.Core.Bool.{Bool, true, false}
+use mathlib.Core.List.{List}
 use mathlib.Core.Path.{_≡_, refl, sym, ap, ap₂, _∙_, subst}
 use lib.ListN.{length, getD, set}
 use lib.Seq.{getD-set-same, getD-set-other}
 use borrow.Author.Count.{below-more}
-use lib.Dec.{leb, ltb, eqb}
-use borrow.Author.Tests.{ltb-true, ltb-false, leb-true, eqb-true, le-leb, lt-leb}
+use lib.Dec.{ltb}
+use borrow.Author.Tests.{ltb-true, ltb-false, le-leb, lt-leb}
 use Rattle.pool.specs.Tables.{Pool, nameWord, levelWord, exprWord, stringAt}
-use Rattle.pool.specs.Kinds.{NameKind, nameKind, anonymousᵏ, stringᵏ, numberᵏ, noNameᵏ, LevelKind, levelKind, zeroᵏ, succᵏ, maxᵏ, imaxᵏ, paramᵏ, noLevelᵏ, ExprKind, exprKind, varᵏ, sortᵏ, constᵏ, appᵏ, piᵏ, lamᵏ, letᵏ, projᵏ, natᵏ, strᵏ, noExprᵏ}
-use Rattle.pool.specs.Tree.{Name, nameDepth, Level, levelDepth, Expr, string, number, succˡ, maxˡ, imaxˡ, app, pi, lam, letᵉ, proj}
-use Rattle.pool.specs.Unfold.{nameNode, nameTo, nameAt, levelNode, levelTo, levelAt, exprNode, exprTo, exprAt}
-use Rattle.pool.specs.Rules.{nameFieldsOk, nameOk, levelFieldsOk, levelOk, exprFieldsOk, unused}
+use Rattle.pool.specs.Kinds.{NameKind, nameKind, anonymousᵏ, stringᵏ, numberᵏ, noNameᵏ, LevelKind, levelKind, zeroᵏ, succᵏ, maxᵏ, imaxᵏ, paramᵏ}
+use Rattle.pool.specs.Kinds.{noLevelᵏ, exprKind}
+use Rattle.pool.specs.Tree.{Name, nameDepth, Level, levelDepth, string, number, succˡ, maxˡ, imaxˡ}
+use Rattle.pool.specs.Unfold.{nameNode, nameTo, nameAt, levelNode, levelTo, levelAt}
+use Rattle.pool.specs.Rules.{nameFieldsOk, nameOk, levelFieldsOk, levelOk, exprFieldsOk}
 use Rattle.pool.specs.Depths.{nameDepthBy, levelDepthBy}
-use Rattle.pool.proofs.Scan.{and-left, and-right}
+use Rattle.basics.proofs.Booleans.{and-left, and-right}
 
 -- the rows below n keep the rules of their fields
 abbrev pub NamesKept : Pool → ℕ → Type 0
@@ -117,46 +118,59 @@ kept-more P n all here j h = by (ltb j n) refl
         let q : n ≡ j = omega arith in
         subst (λ (i : ℕ). P i ≡ true) q here
 
--- what the scan of the names learns at row r
-module _ (p : Pool) (ds : List ℕ) (r d : ℕ) (kept : NamesKept p r) (known : (j : ℕ) → j < r → getD ds j 0 ≡ nameDepth (nameAt p j))
-    (ok : nameFieldsOk (p .names) r (nameKind (nameWord (p .names) r 0)) ≡ true)
-    (e : d ≡ nameDepthBy (p .names) ds r (nameKind (nameWord (p .names) r 0))) where
-  pub name-depth-is : d ≡ nameDepth (nameAt p r)
-  name-depth-is =
-      e ∙ name-depth-at p ds r _ ok known
-      ∙ sym (ap nameDepth (name-unfolds p (suc r) (kept-more (λ (j : ℕ). nameFieldsOk (p .names) j (nameKind (nameWord (p .names) j 0))) r kept ok) r (omega arith)))
+-- what the scan of the names learns of a row that is ok
+abbrev pub NameLearnt : Pool → ℕ → ℕ → Type 0
+NameLearnt p r d = (nameOk p r ≡ true) × (d ≡ nameDepth (nameAt p r)) × (nameFieldsOk (p .names) r (nameKind (nameWord (p .names) r 0)) ≡ true)
 
-  pub name-ok : d ≤ 64 → nameOk p r ≡ true
+module _ (p : Pool) (ds : List ℕ) (r d : ℕ) (kept : NamesKept p r) (known : (j : ℕ) → j < r → getD ds j 0 ≡ nameDepth (nameAt p j))
+    (v : Bool) (ev : v ≡ nameFieldsOk (p .names) r (nameKind (nameWord (p .names) r 0))) (y : v ≡ true)
+    (e : d ≡ nameDepthBy (p .names) ds r (nameKind (nameWord (p .names) r 0))) where
+  name-kept-here : nameFieldsOk (p .names) r (nameKind (nameWord (p .names) r 0)) ≡ true
+  name-kept-here = sym ev ∙ y
+
+  name-depth-is : d ≡ nameDepth (nameAt p r)
+  name-depth-is =
+      e ∙ name-depth-at p ds r _ name-kept-here known
+      ∙ sym (ap nameDepth (name-unfolds p (suc r) (kept-more (λ (j : ℕ). nameFieldsOk (p .names) j (nameKind (nameWord (p .names) j 0))) r kept name-kept-here) r (omega arith)))
+
+  pub name-learnt : d ≤ 64 → NameLearnt p r d
   unfolding nameOk
-  name-ok h = rw (ok, ← name-depth-is, le-leb d 64 h)
+  name-learnt h = (rw (name-kept-here, ← name-depth-is, le-leb d 64 h), name-depth-is, name-kept-here)
 
   pub name-deep : 64 < d → nameOk p r ≡ false
   unfolding nameOk
-  name-deep h = rw (ok, ← name-depth-is, lt-leb d 64 h)
+  name-deep h = rw (name-kept-here, ← name-depth-is, lt-leb d 64 h)
 
-pub name-bad : (p : Pool) (r : ℕ) → nameFieldsOk (p .names) r (nameKind (nameWord (p .names) r 0)) ≡ false → nameOk p r ≡ false
+pub name-bad : (p : Pool) (r : ℕ) (v : Bool) → v ≡ nameFieldsOk (p .names) r (nameKind (nameWord (p .names) r 0)) → v ≡ false → nameOk p r ≡ false
 unfolding nameOk
-name-bad p r e = rw e
+name-bad p r v ev y = rw (sym ev ∙ y)
+
+-- what the scan of the levels learns of a row that is ok
+abbrev pub LevelLearnt : Pool → ℕ → ℕ → Type 0
+LevelLearnt p r d = (levelOk p r ≡ true) × (d ≡ levelDepth (levelAt p r)) × (levelFieldsOk p r (levelKind (levelWord (p .words) r 0)) ≡ true)
 
 module _ (p : Pool) (ds : List ℕ) (r d : ℕ) (kept : LevelsKept p r) (known : (j : ℕ) → j < r → getD ds j 0 ≡ levelDepth (levelAt p j))
-    (ok : levelFieldsOk p r (levelKind (levelWord (p .words) r 0)) ≡ true)
+    (v : Bool) (ev : v ≡ levelFieldsOk p r (levelKind (levelWord (p .words) r 0))) (y : v ≡ true)
     (e : d ≡ levelDepthBy (p .words) ds r (levelKind (levelWord (p .words) r 0))) where
-  pub level-depth-is : d ≡ levelDepth (levelAt p r)
-  level-depth-is =
-      e ∙ level-depth-at p ds r _ ok known
-      ∙ sym (ap levelDepth (level-unfolds p (suc r) (kept-more (λ (j : ℕ). levelFieldsOk p j (levelKind (levelWord (p .words) j 0))) r kept ok) r (omega arith)))
+  level-kept-here : levelFieldsOk p r (levelKind (levelWord (p .words) r 0)) ≡ true
+  level-kept-here = sym ev ∙ y
 
-  pub level-ok : d ≤ 64 → levelOk p r ≡ true
+  level-depth-is : d ≡ levelDepth (levelAt p r)
+  level-depth-is =
+      e ∙ level-depth-at p ds r _ level-kept-here known
+      ∙ sym (ap levelDepth (level-unfolds p (suc r) (kept-more (λ (j : ℕ). levelFieldsOk p j (levelKind (levelWord (p .words) j 0))) r kept level-kept-here) r (omega arith)))
+
+  pub level-learnt : d ≤ 64 → LevelLearnt p r d
   unfolding levelOk
-  level-ok h = rw (ok, ← level-depth-is, le-leb d 64 h)
+  level-learnt h = (rw (level-kept-here, ← level-depth-is, le-leb d 64 h), level-depth-is, level-kept-here)
 
   pub level-deep : 64 < d → levelOk p r ≡ false
   unfolding levelOk
-  level-deep h = rw (ok, ← level-depth-is, lt-leb d 64 h)
+  level-deep h = rw (level-kept-here, ← level-depth-is, lt-leb d 64 h)
 
-pub level-bad : (p : Pool) (r : ℕ) → levelFieldsOk p r (levelKind (levelWord (p .words) r 0)) ≡ false → levelOk p r ≡ false
+pub level-bad : (p : Pool) (r : ℕ) (v : Bool) → v ≡ levelFieldsOk p r (levelKind (levelWord (p .words) r 0)) → v ≡ false → levelOk p r ≡ false
 unfolding levelOk
-level-bad p r e = rw e
+level-bad p r v ev y = rw (sym ev ∙ y)
 
 -- the depths of one more row
 pub depths-more : (ds : List ℕ) (f : ℕ → ℕ) (r d : ℕ) → r < length ds → ((j : ℕ) → j < r → getD ds j 0 ≡ f j) → d ≡ f r

@@ -2,12 +2,22 @@
 use Prim.Native.Nat.{ℕ, _<_}
 use mathlib.Core.List.{List}
 use mathlib.Core.Path.{_≡_}
+use denote.Ref.{now}
+use Rattle.basics.specs.Lent.{Area, Slice}
 use Rattle.pool.specs.declared.tables.Tables.{Tables}
 use Rattle.pool.specs.Tables.{Pool, S, N, L, K, Q, E, D, namesAt, levelsAt, listsAt, listWordsAt, exprsAt, declarsAt, total}
 
 -- the pool of a byte area, the words of the strings and names, and the words of the rest
 abbrev pub over : List ℕ → List ℕ → List ℕ → Pool
 over bs ns ws = record { bytes = bs; names = ns; words = ws }
+
+-- the pool that a function is lent, in an `ensures`
+abbrev pub lent : Area → Area → Area → Pool
+lent bytes names words = over (now (bytes .entry)) (now (names .entry)) (now (words .entry))
+
+-- the same in a `requires`
+abbrev pub given : Slice → Slice → Slice → Pool
+given bytes names words = over (now bytes) (now names) (now words)
 
 -- of the words that hold the strings and the names
 pub record NamesOf (ns : List ℕ) (t : Tables) : Type 0 where

@@ -1,11 +1,9 @@
--- What the code computes row by row: the depth of a name or level row from the depths of lower rows, and the words of an
--- expression row.
-use Prim.Native.Nat.{ℕ, zero, suc, _+_, max}
+-- What the code computes row by row: the depth of a name or level row from the depths of lower rows.
+use Prim.Native.Nat.{ℕ, _+_, max}
 use mathlib.Core.List.{List}
 use lib.ListN.{getD}
 use Rattle.pool.specs.Kinds.{NameKind, anonymousᵏ, stringᵏ, numberᵏ, noNameᵏ, LevelKind, zeroᵏ, succᵏ, maxᵏ, imaxᵏ, paramᵏ, noLevelᵏ}
-use Rattle.pool.specs.Tables.{nameWord, levelWord, exprWord}
-use Rattle.pool.specs.declared.exprs.Fields.{Fields}
+use Rattle.pool.specs.Tables.{nameWord, levelWord}
 
 unfoldable pub nameDepthBy : List ℕ → List ℕ → ℕ → NameKind → ℕ
 nameDepthBy ns depths r anonymousᵏ = 1
@@ -20,16 +18,3 @@ levelDepthBy ws depths r maxᵏ = 1 + max (getD depths (levelWord ws r 1) 0) (ge
 levelDepthBy ws depths r imaxᵏ = 1 + max (getD depths (levelWord ws r 1) 0) (getD depths (levelWord ws r 2) 0)
 levelDepthBy ws depths r paramᵏ = 1
 levelDepthBy ws depths r noLevelᵏ = 1
-
-abbrev pub fieldsOf : List ℕ → ℕ → Fields
-fieldsOf ws r =
-    record {
-      kind = exprWord ws r 0;
-      a = exprWord ws r 1;
-      b = exprWord ws r 2;
-      c = exprWord ws r 3;
-      d = exprWord ws r 4;
-      e = exprWord ws r 5;
-      depth = exprWord ws r 6;
-      loose = exprWord ws r 7;
-    }

@@ -1,12 +1,13 @@
 -- 01, Pool: the row rules of each table. "A reference goes to a row that exists, within one table to a lower one. Unused
 -- words are 0."
-use Prim.Native.Nat.{ℕ, zero, suc, _+_, _-_, _*_, max}
-use mathlib.Core.Bool.{Bool, true, false, _&&_, _||_, not, cond}
+use Prim.Native.Nat.{ℕ, zero, suc, _+_, _-_, max}
+use mathlib.Core.Bool.{Bool, true, false, _&&_, not, cond}
 use mathlib.Core.List.{List, [], _∷_}
 use lib.Dec.{ltb, leb, eqb}
 use lib.ListN.{length}
 use Rattle.utf8.specs.Utf8.{utf8, within}
-use Rattle.pool.specs.Kinds.{NameKind, nameKind, anonymousᵏ, stringᵏ, numberᵏ, noNameᵏ, LevelKind, levelKind, zeroᵏ, succᵏ, maxᵏ, imaxᵏ, paramᵏ, noLevelᵏ, ExprKind, exprKind, varᵏ, sortᵏ, constᵏ, appᵏ, piᵏ, lamᵏ, letᵏ, projᵏ, natᵏ, strᵏ, noExprᵏ}
+use Rattle.pool.specs.Kinds.{NameKind, nameKind, anonymousᵏ, stringᵏ, numberᵏ, noNameᵏ, LevelKind, levelKind, zeroᵏ, succᵏ, maxᵏ, imaxᵏ, paramᵏ}
+use Rattle.pool.specs.Kinds.{noLevelᵏ, ExprKind, exprKind, varᵏ, sortᵏ, constᵏ, appᵏ, piᵏ, lamᵏ, letᵏ, projᵏ, natᵏ, strᵏ, noExprᵏ}
 use Rattle.pool.specs.Tables.{Pool, S, N, L, K, Q, E, stringWord, nameWord, levelWord, listWord, listEntry, exprWord, declarWord, stringAt}
 use Rattle.pool.specs.Tree.{nameDepth, levelDepth}
 use Rattle.pool.specs.Unfold.{nameAt, levelAt, hasValue}

@@ -1,8 +1,8 @@
 -- 01, Pool: "A tree is a root's full unfolding, strings by their bytes, lists by their levels in order, a declaration's
 -- kind, name and list included; rows may repeat."
-use Prim.Native.Nat.{ℕ, zero, suc, _+_, _-_, max}
+use Prim.Native.Nat.{ℕ, suc, _+_, _-_, max}
 use mathlib.Core.Bool.{Bool, true, false, _&&_, _||_, cond}
-use mathlib.Core.List.{List, [], _∷_, map}
+use mathlib.Core.List.{List, [], _∷_}
 use lib.Dec.{ltb, eqb}
 use Rattle.utf8.specs.Letterlike.{sameBytes}
 

@@ -1,14 +1,14 @@
 -- 01, Pool: "A tree is a root's full unfolding". References go to lower rows, so a bound above the row reaches the leaves;
 -- where a row breaks a rule, what stands here does not matter.
 use Prim.Native.Nat.{ℕ, zero, suc, _+_, _*_, _^_}
-use mathlib.Core.Bool.{Bool, true, false, cond}
-use mathlib.Core.List.{List, [], _∷_, map}
-use lib.Dec.{ltb, leb}
-use lib.ListN.{take, drop}
+use mathlib.Core.Bool.{Bool, cond}
+use mathlib.Core.List.{List, [], _∷_}
 use Rattle.utf8.specs.Utf8.{within}
-use Rattle.pool.specs.Kinds.{NameKind, nameKind, anonymousᵏ, stringᵏ, numberᵏ, noNameᵏ, LevelKind, levelKind, zeroᵏ, succᵏ, maxᵏ, imaxᵏ, paramᵏ, noLevelᵏ, ExprKind, exprKind, varᵏ, sortᵏ, constᵏ, appᵏ, piᵏ, lamᵏ, letᵏ, projᵏ, natᵏ, strᵏ, noExprᵏ}
+use Rattle.pool.specs.Kinds.{NameKind, nameKind, anonymousᵏ, stringᵏ, numberᵏ, noNameᵏ, LevelKind, levelKind, zeroᵏ, succᵏ, maxᵏ, imaxᵏ, paramᵏ}
+use Rattle.pool.specs.Kinds.{noLevelᵏ, ExprKind, exprKind, varᵏ, sortᵏ, constᵏ, appᵏ, piᵏ, lamᵏ, letᵏ, projᵏ, natᵏ, strᵏ, noExprᵏ}
 use Rattle.pool.specs.Tables.{Pool, nameWord, levelWord, listWord, listEntry, exprWord, declarWord, stringAt}
-use Rattle.pool.specs.Tree.{Name, anonymous, string, number, Level, zeroˡ, succˡ, maxˡ, imaxˡ, paramˡ, Expr, var, sort, const, app, pi, lam, letᵉ, proj, nat, str, Declar, typed, valued}
+use Rattle.pool.specs.Tree.{Name, anonymous, string, number, Level, zeroˡ, succˡ, maxˡ, imaxˡ, paramˡ, Expr, var, sort, const, app, pi, lam, letᵉ, proj}
+use Rattle.pool.specs.Tree.{nat, str, Declar, typed, valued}
 
 -- the tree of row r of a kind, from the trees of lower rows
 unfoldable pub nameNode : Pool → (ℕ → Name) → ℕ → NameKind → Name

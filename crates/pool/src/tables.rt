@@ -36,7 +36,8 @@ fn word_at(words: &[u32], i: usize) -> usize
 // The offsets of the words that hold the rest, from their own head.
 fn words_of(strings: usize, names: usize, words: &[u32]) -> Tables
     requires { ⌜ (strings < 4294967296) × (names < 4294967296) ⌝ }
-    ensures { λ t. ⌜ (WordsOf (now (words .entry)) t) × (t .strings ≡ strings) × (t .names ≡ names) × (t .«names_at» ≡ 7 + 2 * strings) ⌝ }
+    ensures { λ t. ⌜ (WordsOf (now (words .entry)) t) × (t .strings ≡ strings) × (t .names ≡ names)
+        × (t .«names_at» ≡ 7 + 2 * strings) ⌝ }
 {
     let levels = word_at(words, 2);
     let lists = word_at(words, 3);

@@ -1,57 +1,70 @@
-// Runs damaged pools through check and code points through the letterlike classes, and writes how many answers were right:
-// the file stdout has as many as there are cases.
-mod base;
-mod cases;
-mod chains;
+// Runs check on the pools of its standard input, and writes each case's title with the number and the place that it answers; then every
+// code point at which the letterlike classes change, with its class. The file stdout has what 01 says.
 mod letters;
-mod limits;
-mod strings;
 
+use libc::STDIN_FILENO;
 use libc::STDOUT_FILENO;
+use pool_check::Verdict;
+use records::bytes;
+use records::field;
+use records::load;
 
-fn report(name: &[u8], right: u64) {
-    io::write_all(STDOUT_FILENO, name);
-    io::print_decimal(STDOUT_FILENO, right);
+// 01's number and place of an answer.
+fn numbers(v: Verdict) -> [u64; 2] {
+    match v {
+        Verdict::Accepted => [0, 0],
+        Verdict::Words => [1, 0],
+        Verdict::Limit => [2, 0],
+        Verdict::Strings { row } => [3, row as u64],
+        Verdict::Rows { row } => [4, row as u64],
+    }
+}
+
+// What check answers to a pool of the first n words. No number of 01's where there are not so many.
+fn answer(bytes: &[u8], words: &[u32], n: usize) -> [u64; 2] {
+    if n <= words.len() {
+        return numbers(pool_check::check(bytes, &words[..n]));
+    }
+    [99, 0]
+}
+
+fn show(a: [u64; 2]) {
+    io::write_all(STDOUT_FILENO, b": ");
+    io::print_decimal(STDOUT_FILENO, a[0]);
+    io::write_all(STDOUT_FILENO, b" ");
+    io::print_decimal(STDOUT_FILENO, a[1]);
     io::write_all(STDOUT_FILENO, b"\n");
 }
 
-fn report_rows_1() {
-    report(b"head: ", cases::head_cases());
-    report(b"strings: ", cases::strings_cases());
-    report(b"names: ", cases::names_cases());
-    report(b"more names: ", cases::more_names_cases());
-    report(b"levels: ", cases::levels_cases());
-    report(b"more levels: ", cases::more_levels_cases());
-    report(b"lists: ", cases::lists_cases());
-    report(b"leaves: ", cases::leaves_cases());
+// One case; differential/pool_cases.py has the form, and makes the files stdin and stdout.
+fn case(data: &[u8], at: usize, words: &mut [u32]) {
+    load(
+        data,
+        std::num::wrapping_add_usize(at, 23),
+        field(data, at, 4),
+        words,
+    );
+    let pool = bytes(data, at, 5, field(data, at, 2));
+    let a = answer(pool, words, field(data, at, 3));
+    io::write_all(STDOUT_FILENO, bytes(data, at, 7, field(data, at, 1)));
+    show(a);
 }
 
-fn report_rows_2() {
-    report(b"more leaves: ", cases::more_leaves_cases());
-    report(b"applications: ", cases::applications_cases());
-    report(b"projections: ", cases::projections_cases());
-    report(b"pis: ", cases::pis_cases());
-    report(b"lambdas: ", cases::lambdas_cases());
-    report(b"lets: ", cases::lets_cases());
-    report(b"declarations: ", cases::declarations_cases());
-    report(b"first of several: ", cases::first_of_several_cases());
-}
-
-fn report_strings() {
-    report(b"utf-8: ", strings::utf8_cases_1());
-    report(b"utf-8: ", strings::utf8_cases_2());
-    report(b"utf-8: ", strings::utf8_cases_3());
-    report(b"utf-8: ", strings::utf8_cases_4());
+fn cases(data: &[u8], words: &mut [u32]) {
+    let n = field(data, 0, 0);
+    let mut at: usize = 1;
+    let mut i: usize = 0;
+    while i < n {
+        case(data, at, words);
+        at = std::num::wrapping_add_usize(at, field(data, at, 0));
+        i += 1;
+    }
 }
 
 fn main() {
-    report_rows_1();
-    report_rows_2();
-    report_strings();
-    report(b"depths: ", chains::depth_cases());
-    report(b"limits: ", limits::limit_cases());
-    let t = letters::count_all();
-    report(b"starts: ", t.starts);
-    report(b"rests: ", t.rests);
-    report(b"classes wrong: ", t.wrong);
+    let mut data = [0u8; 131072];
+    let mut words = [0u32; 524303];
+    io::read_full(STDIN_FILENO, &mut data);
+    cases(&data, &mut words);
+    letters::changes();
 }

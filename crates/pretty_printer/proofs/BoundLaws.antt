@@ -5,14 +5,16 @@ use mathlib.Core.Bool.{Bool, true, false, cond}
 use mathlib.Core.List.{List, [], _∷_, _++_, map}
 use mathlib.Core.Path.{_≡_, refl, sym, ap, ap₂, _∙_}
 use lib.ListN.{length}
-use Rattle.document.specs.Walk.{Marked}
 use Rattle.pool.proofs.TreeLaws.{lift-depth}
-use Rattle.pool.specs.Tree.{Name, Expr, var, sort, const, app, pi, lam, letᵉ, proj, nat, str, lift, depth}
-use Rattle.names.specs.Docs.{Parenable, G, NG, under, tile}
-use Rattle.pretty_printer.specs.Runs.{runs, runsTo}
-use Rattle.pretty_printer.specs.Binders.{Binder, binders, chainBody, pushed, groupDoc, telescope, arrowPar, forallPar, funPar, runPar, runsPar, bindersPar, sameGroup, goesAlong, isArrow}
-use Rattle.pretty_printer.specs.Exprs.{appHead, appArgs, appPar, chainPar, letPar, exprTo, exprPar}
-use Rattle.pretty_printer.proofs.RunLaws.{All, all-leading, all-following, all-runs}
+use Rattle.pool.specs.Tree.{Name, Expr, var, sort, const, app, pi, lam, letᵉ, proj, nat, str, depth}
+use Rattle.pieces.specs.Docs.{Parenable, G, under, tile}
+use Rattle.binders.specs.Runs.{runs}
+use Rattle.binders.specs.Binders.{Binder, binders, chainBody, pushed, groupDoc, telescope, arrowPar, forallPar, funPar, runPar, runsPar, bindersPar, sameGroup}
+use Rattle.binders.specs.Binders.{goesAlong}
+use Rattle.pretty_printer.specs.Exprs.{appHead, appArgs, appPar, chainPar, exprTo}
+use Rattle.binders.proofs.RunLaws.{All, all-runs}
+use Rattle.binders.specs.Options.{PpOptions}
+use Rattle.binders.specs.Shown.{NamesInForce}
 
 -- ---- the parts of an application and of a chain are not deeper
 
@@ -88,45 +90,49 @@ unfolding All
 all-map P Q f [] h = tt
 all-map P Q f (x ∷ xs) h = (f x (h .0), all-map P Q f xs (h .1))
 
-module _ (indent : ℕ) (pp qq : Expr → Parenable) where
+module _ (opts : PpOptions) (pp qq : Expr → Parenable) where
   abbrev pub Agree : Binder → Type 0
   Agree b = pp (b .type) ≡ qq (b .type)
 
-  group-agrees : (bs : List Binder) → All Agree bs → groupDoc indent pp bs ≡ groupDoc indent qq bs
+  group-agrees : (bs : List Binder) → All Agree bs → groupDoc opts pp bs ≡ groupDoc opts qq bs
   unfolding groupDoc All
   group-agrees [] h = refl
   group-agrees (b ∷ bs) h = rw (h .0)
 
-  pub telescope-agrees : (bs : List Binder) → All Agree bs → telescope indent pp bs ≡ telescope indent qq bs
+  pub telescope-agrees : (bs : List Binder) → All Agree bs → telescope opts pp bs ≡ telescope opts qq bs
   unfolding telescope runs
   telescope-agrees bs h =
       ap tile
-      (map-agrees (groupDoc indent pp) (groupDoc indent qq) (runs sameGroup bs)
-      (all-map (All Agree) (λ g. groupDoc indent pp g ≡ groupDoc indent qq g) group-agrees (runs sameGroup bs)
+      (map-agrees (groupDoc opts pp) (groupDoc opts qq) (runs sameGroup bs)
+      (all-map (All Agree) (λ g. groupDoc opts pp g ≡ groupDoc opts qq g) group-agrees (runs sameGroup bs)
       (all-runs Agree (length bs) sameGroup bs h)))
 
-  run-agrees : (bs : List Binder) (x y : Parenable) → All Agree bs → x ≡ y → runPar indent pp bs x ≡ runPar indent qq bs y
+  run-agrees : (bs : List Binder) (x y : Parenable) → All Agree bs → x ≡ y → runPar opts pp bs x ≡ runPar opts qq bs y
   unfolding runPar arrowPar forallPar funPar All
   run-agrees [] x y h e = e
   run-agrees (b ∷ bs) x y h e = rw (e, h .0, telescope-agrees (b ∷ bs) h)
 
-  runs-agree : (rs : List (List Binder)) (x y : Parenable) → All (All Agree) rs → x ≡ y → runsPar indent pp rs x ≡ runsPar indent qq rs y
+  runs-agree : (rs : List (List Binder)) (x y : Parenable) → All (All Agree) rs → x ≡ y → runsPar opts pp rs x ≡ runsPar opts qq rs y
   unfolding runsPar All
   runs-agree [] x y h e = e
   runs-agree (r ∷ rs) x y h e = run-agrees r _ _ (h .0) (runs-agree rs x y (h .1) e)
 
-  pub binders-agree : (bs : List Binder) (x y : Parenable) → All Agree bs → x ≡ y → bindersPar indent pp bs x ≡ bindersPar indent qq bs y
+  pub binders-agree : (bs : List Binder) (x y : Parenable) → All Agree bs → x ≡ y → bindersPar opts pp bs x ≡ bindersPar opts qq bs y
   unfolding bindersPar runs
   binders-agree bs x y h e = runs-agree (runs goesAlong bs) x y (all-runs Agree (length bs) goesAlong bs h) e
 
-  pub chain-agrees : (bs : List Binder) (outside : ℕ) (body : Expr) → All Agree bs → pp body ≡ qq body → chainPar indent pp bs outside body ≡ chainPar indent qq bs outside body
+  pub chain-agrees : (bs : List Binder) (outside : ℕ) (body : Expr) → All Agree bs → pp body ≡ qq body → chainPar opts pp bs outside body ≡ chainPar opts qq bs outside body
   unfolding chainPar
   chain-agrees bs outside body h e = rw (binders-agree bs (pp body) (qq body) h e)
 
-  pub app-agrees : (head : Expr) (args : List Expr) → pp head ≡ qq head → All (λ a. pp a ≡ qq a) args → appPar indent pp head args ≡ appPar indent qq head args
+  pub app-agrees : (head : Expr) (args : List Expr) → pp head ≡ qq head → All (λ a. pp a ≡ qq a) args → appPar opts pp head args ≡ appPar opts qq head args
   unfolding appPar
   app-agrees head args e h =
-      rw (e, map-agrees (λ a. G (under 1024 (pp a))) (λ a. G (under 1024 (qq a))) args (all-map (λ a. pp a ≡ qq a) (λ a. G (under 1024 (pp a)) ≡ G (under 1024 (qq a))) (λ a w. ap (λ p. G (under 1024 p)) w) args h))
+      rw (
+        e,
+        map-agrees (λ a. G (under 1024 (pp a))) (λ a. G (under 1024 (qq a))) args
+            (all-map (λ a. pp a ≡ qq a) (λ a. G (under 1024 (pp a)) ≡ G (under 1024 (qq a))) (λ a w. ap (λ p. G (under 1024 p)) w) args h),
+      )
 
 -- ---- the bound
 
@@ -154,44 +160,44 @@ unfolding All
 all-one P x h = (h, tt)
 
 -- a chain whose binders and body are not deeper than the two bounds
-chain-bound : (indent m n : ℕ) → ((ns : List Name) (e : Expr) → depth e ≤ m → depth e ≤ n → exprTo indent m ns e ≡ exprTo indent n ns e) →
-    (ns : List Name) (bs : List Binder) (outside : ℕ) (body : Expr) → All (TypeWithin m) bs → All (TypeWithin n) bs → depth body ≤ m → depth body ≤ n →
-    chainPar indent (exprTo indent m ns) bs outside body ≡ chainPar indent (exprTo indent n ns) bs outside body
-chain-bound indent m n below ns bs outside body p q h k =
-    chain-agrees indent (exprTo indent m ns) (exprTo indent n ns) bs outside body
-    (all-two (TypeWithin m) (TypeWithin n) (Agree indent (exprTo indent m ns) (exprTo indent n ns)) (λ b x y. below ns (b .type) x y) bs p q)
+chain-bound : (opts : PpOptions) (m n : ℕ) → ((ns : NamesInForce) (e : Expr) → depth e ≤ m → depth e ≤ n → exprTo opts m ns e ≡ exprTo opts n ns e) →
+    (ns : NamesInForce) (bs : List Binder) (outside : ℕ) (body : Expr) → All (TypeWithin m) bs → All (TypeWithin n) bs → depth body ≤ m → depth body ≤ n →
+    chainPar opts (exprTo opts m ns) bs outside body ≡ chainPar opts (exprTo opts n ns) bs outside body
+chain-bound opts m n below ns bs outside body p q h k =
+    chain-agrees opts (exprTo opts m ns) (exprTo opts n ns) bs outside body
+    (all-two (TypeWithin m) (TypeWithin n) (Agree opts (exprTo opts m ns) (exprTo opts n ns)) (λ b x y. below ns (b .type) x y) bs p q)
     (below ns body h k)
 
-step : (indent m n : ℕ) → ((ns : List Name) (e : Expr) → depth e ≤ m → depth e ≤ n → exprTo indent m ns e ≡ exprTo indent n ns e) →
-    (ns : List Name) (e : Expr) → depth e ≤ suc m → depth e ≤ suc n → exprTo indent (suc m) ns e ≡ exprTo indent (suc n) ns e
+step : (opts : PpOptions) (m n : ℕ) → ((ns : NamesInForce) (e : Expr) → depth e ≤ m → depth e ≤ n → exprTo opts m ns e ≡ exprTo opts n ns e) →
+    (ns : NamesInForce) (e : Expr) → depth e ≤ suc m → depth e ≤ suc n → exprTo opts (suc m) ns e ≡ exprTo opts (suc n) ns e
 unfolding exprTo depth
-step indent m n below ns (var i) h k = refl
-step indent m n below ns (sort l) h k = refl
-step indent m n below ns (const a ls) h k = refl
-step indent m n below ns (app f a) h k =
-    app-agrees indent (exprTo indent m ns) (exprTo indent n ns) (appHead f) (appArgs f (a ∷ []))
+step opts m n below ns (var i) h k = refl
+step opts m n below ns (sort l) h k = refl
+step opts m n below ns (const a ls) h k = refl
+step opts m n below ns (app f a) h k =
+    app-agrees opts (exprTo opts m ns) (exprTo opts n ns) (appHead f) (appArgs f (a ∷ []))
     (below ns (appHead f) (omega (arith, head-depth f)) (omega (arith, head-depth f)))
-    (all-two (Within m) (Within n) (λ x. exprTo indent m ns x ≡ exprTo indent n ns x) (λ x p q. below ns x p q) (appArgs f (a ∷ []))
+    (all-two (Within m) (Within n) (λ x. exprTo opts m ns x ≡ exprTo opts n ns x) (λ x p q. below ns x p q) (appArgs f (a ∷ []))
     (args-depth m f (a ∷ []) (omega arith) (all-one (Within m) a (omega arith)))
     (args-depth n f (a ∷ []) (omega arith) (all-one (Within n) a (omega arith))))
-step indent m n below ns (pi p a s t b) h k =
+step opts m n below ns (pi p a s t b) h k =
     let bs : List Binder = binders (pi p a s t b) in
-    chain-bound indent m n below (pushed bs ns) bs (length ns) (chainBody b)
+    chain-bound opts m n below (pushed bs ns) bs (length ns) (chainBody b)
     (types-depth m (pi p a s t b) h) (types-depth n (pi p a s t b) k)
     (omega (arith, body-depth b)) (omega (arith, body-depth b))
-step indent m n below ns (lam p a s t b) h k =
+step opts m n below ns (lam p a s t b) h k =
     let bs : List Binder = binders (lam p a s t b) in
-    chain-bound indent m n below (pushed bs ns) bs (length ns) (chainBody b)
+    chain-bound opts m n below (pushed bs ns) bs (length ns) (chainBody b)
     (types-depth m (lam p a s t b) h) (types-depth n (lam p a s t b) k)
     (omega (arith, body-depth b)) (omega (arith, body-depth b))
-step indent m n below ns (letᵉ p a t v b d) h k =
+step opts m n below ns (letᵉ p a t v b d) h k =
     rw (below ns t (omega arith) (omega arith), below ns v (omega arith) (omega arith), below (a ∷ ns) b (omega arith) (omega arith))
-step indent m n below ns (proj a i e) h k = rw (below ns e (omega arith) (omega arith))
-step indent m n below ns (nat s) h k = refl
-step indent m n below ns (str s) h k = refl
+step opts m n below ns (proj a i e) h k = rw (below ns e (omega arith) (omega arith))
+step opts m n below ns (nat s) h k = refl
+step opts m n below ns (str s) h k = refl
 
 -- "an expression's document is the same for every bound from its depth on"
-pub bound-does-not-matter : (indent m n : ℕ) (ns : List Name) (e : Expr) → depth e ≤ m → depth e ≤ n → exprTo indent m ns e ≡ exprTo indent n ns e
-bound-does-not-matter indent zero n ns e h k = absurd (omega (arith, depth-positive e))
-bound-does-not-matter indent (suc m) zero ns e h k = absurd (omega (arith, depth-positive e))
-bound-does-not-matter indent (suc m) (suc n) ns e h k = step indent m n (bound-does-not-matter indent m n) ns e h k
+pub bound-does-not-matter : (opts : PpOptions) (m n : ℕ) (ns : NamesInForce) (e : Expr) → depth e ≤ m → depth e ≤ n → exprTo opts m ns e ≡ exprTo opts n ns e
+bound-does-not-matter opts zero n ns e h k = absurd (omega (arith, depth-positive e))
+bound-does-not-matter opts (suc m) zero ns e h k = absurd (omega (arith, depth-positive e))
+bound-does-not-matter opts (suc m) (suc n) ns e h k = step opts m n (bound-does-not-matter opts m n) ns e h k

@@ -12,14 +12,14 @@ use lib.ListN.{length, take, drop}
 use Rattle.pool.specs.Tables.{Pool}
 use Rattle.pool.specs.Tree.{Name, Expr, var, sort, const, app, pi, lam, letᵉ, proj, nat, str, lift, occurs, same, forget}
 use Rattle.pool.proofs.TreeLaws.{same-forgets as tells, forgets-same as shows}
-use Rattle.pretty_printer.specs.declared.stack.Stack.{Stack}
-use Rattle.pretty_printer.specs.Runs.{leading, following, runs}
-use Rattle.pretty_printer.specs.Binders.{Binder, chainBody, isArrow, isNamedPi, isLambda, goesAlong, sameGroup}
-use Rattle.pretty_printer.specs.Rename.{up, rename, lifted}
-use Rattle.pretty_printer.specs.Scopes.{entry, outward, placeBy, placeIn, Linked, scoped, lastScope, Chained}
-use Rattle.pretty_printer.specs.Steps.{firstBinder, inRun, runLength, inGroup, groupLength, dropChain}
-use Rattle.pretty_printer.proofs.RenameLaws.{rename-agrees, rename-composes, lift-renames, rename-forgets, rename-same}
-use Rattle.pretty_printer.proofs.ScopeLaws.{place-rises, place-out, chain-length}
+use Rattle.binders.specs.declared.stack.Stack.{Stack}
+use Rattle.binders.specs.Runs.{leading, following}
+use Rattle.binders.specs.Binders.{Binder, isArrow, isNamedPi, sameGroup}
+use Rattle.binders.specs.Rename.{rename, lifted}
+use Rattle.binders.specs.Scopes.{placeIn, Linked, scoped, Chained}
+use Rattle.binders.specs.Steps.{firstBinder, inRun, runLength, inGroup, groupLength}
+use Rattle.binders.proofs.RenameLaws.{rename-composes, lift-renames, rename-forgets, rename-same}
+use Rattle.binders.proofs.ScopeLaws.{place-rises, place-out, chain-length}
 
 -- ---- lists
 

@@ -5,20 +5,21 @@ use mathlib.Core.List.{List, [], _∷_, _++_, map, append-assoc, map-append}
 use mathlib.Core.Path.{_≡_, refl, sym, ap, ap₂, _∙_}
 use lib.Dec.{ltb}
 use lib.ListN.{length}
-use Rattle.utf8.specs.Quoted.{bytes}
-use Rattle.document.specs.Walk.{Marked, textᵐ, joinᵐ, breakᵐ, nestᵐ, groupᵐ, names}
-use Rattle.document.specs.Sink.{State, putText, putJoin, putBreak, putNest, putGroup, putNames, emit}
-use Rattle.pool.specs.Tree.{Name, Expr, var, sort, const, app, pi, lam, letᵉ, proj, nat, str}
-use Rattle.names.specs.Docs.{_⊹_, quoted, line, G, NG, Parenable, withInner, under, tile, tileFrom}
-use Rattle.names.specs.Tiles.{putTile}
-use Rattle.names.proofs.Universes.{tile-emits}
-use Rattle.pretty_printer.specs.Runs.{leading, following, runs}
-use Rattle.pretty_printer.specs.Binders.{Binder, isArrow, isNamedPi, goesAlong, sameGroup, opening, closing, binderName, groupDoc, telescope, arrowPar, forallPar, funPar, runPar, runsPar, bindersPar}
-use Rattle.pretty_printer.specs.Exprs.{appHead, appArgs, appPar, letPar}
-use Rattle.pretty_printer.specs.Steps.{spineDoc, inRun}
-use Rattle.pretty_printer.specs.Puts.{joinPiece, joinLine, putColon, putArrow, startRun, markRun, endRun, endGroup, innerOf}
-use Rattle.pretty_printer.proofs.RunLaws.{runs-are-leading, runs-of-none}
-use Rattle.pretty_printer.proofs.GroupLaws.{arrow-alone}
+use Rattle.document.specs.Walk.{Marked}
+use Rattle.document.specs.Sink.{State, putJoin, emit}
+use Rattle.pool.specs.Tree.{Expr, var, sort, const, app, pi, lam, letᵉ, proj, nat, str}
+use Rattle.pieces.specs.Docs.{_⊹_, quoted, line, G, NG, Parenable, withInner, under, tile, tileFrom}
+use Rattle.pieces.specs.Tiles.{putTile}
+use Rattle.pieces.proofs.Emitting.{tile-emits}
+use Rattle.binders.specs.Runs.{leading, following, runs}
+use Rattle.binders.specs.Binders.{Binder, isArrow, goesAlong, sameGroup, opening, closing, binderName, groupDoc, telescope, arrowPar, forallPar, funPar, runPar, runsPar}
+use Rattle.binders.specs.Binders.{bindersPar}
+use Rattle.pretty_printer.specs.Exprs.{appHead, appArgs, appPar}
+use Rattle.binders.specs.Steps.{spineDoc}
+use Rattle.binders.specs.Puts.{joinPiece, joinLine, putColon, putArrow, startRun, markRun, endRun, endGroup}
+use Rattle.binders.proofs.RunLaws.{runs-are-leading, runs-of-none}
+use Rattle.binders.proofs.GroupLaws.{arrow-alone}
+use Rattle.binders.specs.Options.{PpOptions}
 
 -- ---- tiles
 
@@ -64,45 +65,51 @@ module _ (pp : Expr → Parenable) where
   spine-is-tile (nat s) = refl
   spine-is-tile (str s) = refl
 
-  pub app-is-spine : (indent : ℕ) (f a : Expr) → appPar indent pp (appHead f) (appArgs f (a ∷ [])) ≡ withInner 1023 (NG indent (spineDoc pp (app f a)))
+  pub app-is-spine : (opts : PpOptions) (f a : Expr) → appPar opts pp (appHead f) (appArgs f (a ∷ [])) ≡ withInner 1023 (NG (opts .indent) (spineDoc pp (app f a)))
   unfolding appPar tile appHead appArgs arg
-  app-is-spine indent f a = ap (λ (d : Marked). withInner 1023 (NG indent d)) (sym (spine-is-tile (app f a)))
+  app-is-spine opts f a = ap (λ (d : Marked). withInner 1023 (NG (opts .indent) d)) (sym (spine-is-tile (app f a)))
 
 -- ---- chains
 
-module _ (indent : ℕ) (pp : Expr → Parenable) where
-  pub no-binders : (body : Parenable) → bindersPar indent pp [] body ≡ body
+module _ (opts : PpOptions) (pp : Expr → Parenable) where
+  pub no-binders : (body : Parenable) → bindersPar opts pp [] body ≡ body
   unfolding bindersPar runsPar
   no-binders body = rw (runs-of-none goesAlong)
 
-  pub arrow-first : (b : Binder) (bs : List Binder) (body : Parenable) → isArrow b ≡ true → b .isPi ≡ true → bindersPar indent pp (b ∷ bs) body ≡ arrowPar indent pp b (bindersPar indent pp bs body)
+  pub arrow-first : (b : Binder) (bs : List Binder) (body : Parenable) → isArrow b ≡ true → b .isPi ≡ true → bindersPar opts pp (b ∷ bs)
+      body ≡ arrowPar opts pp b (bindersPar opts pp bs body)
   unfolding bindersPar runsPar runPar
   arrow-first b bs body e q = rw (arrow-alone b e q bs, e)
 
   pub run-first : (b : Binder) (bs : List Binder) (body : Parenable) → isArrow b ≡ false →
-      bindersPar indent pp (b ∷ bs) body ≡ cond (b .isPi) (forallPar indent pp (b ∷ leading (goesAlong b) bs) (bindersPar indent pp (following (goesAlong b) bs) body)) (funPar indent pp (b ∷ leading (goesAlong b) bs) (bindersPar indent pp (following (goesAlong b) bs) body))
+      bindersPar opts pp (b ∷ bs) body ≡ cond (b .isPi)
+      (forallPar opts pp (b ∷ leading (goesAlong b) bs) (bindersPar opts pp (following (goesAlong b) bs) body))
+      (funPar opts pp (b ∷ leading (goesAlong b) bs) (bindersPar opts pp (following (goesAlong b) bs) body))
   unfolding bindersPar runsPar runPar
   run-first b bs body e = rw (runs-are-leading goesAlong b bs, e)
 
   -- an arrow binder and what follows it
-  pub arrow-puts : (b : Binder) (tail : Parenable) (st : State) → emit (arrowPar indent pp b tail .doc) st ≡ putJoin (emit (under 24 tail) (putArrow indent (emit (under 25 (pp (b .type))) st)))
+  pub arrow-puts : (b : Binder) (tail : Parenable) (st : State) → emit (arrowPar opts pp b tail .doc) st ≡ putJoin
+      (emit (under 24 tail) (putArrow (opts .indent) (emit (under 25 (pp (b .type))) st)))
   unfolding arrowPar emit putArrow joinLine joinPiece quoted
   arrow-puts b tail st = refl
 
   -- a run and what follows it
   pub run-puts : (c : Bool) (bs : List Binder) (tail : Parenable) (st : State) →
-      emit (cond c (forallPar indent pp bs tail) (funPar indent pp bs tail) .doc) st ≡ putJoin (emit (under 0 tail) (endRun indent c (emit (telescope indent pp bs) (startRun c st))))
+      emit (cond c (forallPar opts pp bs tail) (funPar opts pp bs tail) .doc) st ≡ putJoin (emit (under 0 tail) (endRun (opts .indent) c (emit (telescope opts pp bs) (startRun c st))))
   unfolding forallPar funPar emit endRun markRun startRun joinLine joinPiece quoted
   run-puts true bs tail st = refl
   run-puts false bs tail st = refl
 
   -- a run's groups: the first, then the others
   pub telescope-puts : (b : Binder) (bs : List Binder) (st : State) →
-      emit (telescope indent pp (b ∷ bs)) st ≡ putTile (map (groupDoc indent pp) (runs sameGroup (following (sameGroup b) bs))) (emit (groupDoc indent pp (b ∷ leading (sameGroup b) bs)) st)
+      emit (telescope opts pp (b ∷ bs)) st ≡ putTile (map (groupDoc opts pp) (runs sameGroup (following (sameGroup b) bs))) (emit (groupDoc opts pp (b ∷ leading (sameGroup b) bs)) st)
   unfolding telescope tile
-  telescope-puts b bs st = rw (runs-are-leading sameGroup b bs) (sym (tile-emits (groupDoc indent pp (b ∷ leading (sameGroup b) bs)) (map (groupDoc indent pp) (runs sameGroup (following (sameGroup b) bs))) st))
+  telescope-puts b bs st = rw (runs-are-leading sameGroup b bs)
+      (sym (tile-emits (groupDoc opts pp (b ∷ leading (sameGroup b) bs)) (map (groupDoc opts pp) (runs sameGroup (following (sameGroup b) bs))) st))
 
   pub group-puts : (b : Binder) (bs : List Binder) (st : State) →
-      emit (groupDoc indent pp (b ∷ bs)) st ≡ endGroup indent (closing (b .style)) (emit (under 1 (pp (b .type))) (putColon (emit (tile (map binderName (b ∷ bs))) (emit (opening (b .style)) st))))
+      emit (groupDoc opts pp (b ∷ bs)) st ≡ endGroup (opts .indent) (closing (b .style))
+      (emit (under 1 (pp (b .type))) (putColon (emit (tile (map binderName (b ∷ bs))) (emit (opening (b .style)) st))))
   unfolding groupDoc emit endGroup putColon joinLine joinPiece quoted
   group-puts b bs st = refl

@@ -6,25 +6,26 @@ use mathlib.Core.List.{List, [], _∷_}
 use mathlib.Core.Path.{_≡_, refl, sym, ap, ap₂, _∙_}
 use lib.Dec.{ltb, eqb}
 use lib.ListN.{length, take, drop}
-use Rattle.document.specs.Walk.{Marked}
+use Rattle.basics.proofs.Booleans.{and-left, or-false}
 use Rattle.document.specs.Sink.{State, putJoin, emit}
 use Rattle.pool.specs.Tables.{Pool}
 use Rattle.pool.specs.Tree.{Name, Expr, occurs}
-use Rattle.names.specs.Docs.{Parenable, under}
-use Rattle.names.specs.Parens.{openIf, closeIf}
-use Rattle.names.proofs.Emitting.{under-emits}
-use Rattle.pretty_printer.specs.declared.stack.Stack.{Stack}
-use Rattle.pretty_printer.specs.Runs.{leading, following}
-use Rattle.pretty_printer.specs.Binders.{Binder, chainBody, isArrow, isNamedPi, isLambda, goesAlong, telescope, arrowPar, forallPar, funPar, bindersPar}
-use Rattle.pretty_printer.specs.Rename.{rename}
-use Rattle.pretty_printer.specs.Scopes.{placeIn, scoped, lastScope, Chained}
-use Rattle.pretty_printer.specs.Steps.{firstBinder, isBinder, inRun, runLength, partLength, dropChain, chainLength, mkBinder}
-use Rattle.pretty_printer.specs.Puts.{putArrow, startRun, endRun}
-use Rattle.pretty_printer.specs.Parts.{printed, inScope, chainPart, groupsPart, runPart, levelOf}
+use Rattle.pieces.specs.Docs.{Parenable, under}
+use Rattle.pieces.specs.Parens.{openIf, closeIf}
+use Rattle.pieces.proofs.Emitting.{under-emits}
+use Rattle.binders.specs.declared.stack.Stack.{Stack}
+use Rattle.binders.specs.Runs.{leading, following}
+use Rattle.binders.specs.Binders.{Binder, chainBody, isArrow, isNamedPi, goesAlong, arrowPar, forallPar, funPar, bindersPar}
+use Rattle.binders.specs.Rename.{rename}
+use Rattle.binders.specs.Scopes.{placeIn, scoped, lastScope}
+use Rattle.binders.specs.Steps.{firstBinder, isBinder, inRun, runLength, partLength, dropChain, chainLength, mkBinder}
+use Rattle.pretty_printer.specs.Parts.{printed, inScope, chainPart, groupsPart, runPart}
+use Rattle.binders.specs.Puts.{levelOf}
 use Rattle.pretty_printer.proofs.ChainLaws.{leading-takes, following-drops, run-length}
 use Rattle.pretty_printer.proofs.EmitLaws.{no-binders, arrow-first, run-first, arrow-puts, run-puts}
-use Rattle.pretty_printer.proofs.ViewLaws.{first-made, length-made, scoped-made, scope-made, body-made, drop-made, run-made, body-none, scope-none, scoped-none}
-use Rattle.pretty_printer.proofs.DropLaws.{Later, later-some, run-within}
+use Rattle.binders.proofs.ViewLaws.{first-made, length-made, scoped-made, body-none, scope-none, scoped-none}
+use Rattle.binders.proofs.DropLaws.{Later, later-some, run-within}
+use Rattle.binders.specs.Options.{PpOptions}
 
 -- ---- lists: tests that agree
 
@@ -40,10 +41,6 @@ module _ {A : Type 0} (q r : A → Bool) (same : (x : A) → q x ≡ r x) where
   following-agrees (x ∷ xs) = ap₂ (λ (v : Bool) (l : List A). cond v l (x ∷ xs)) (same x) (following-agrees xs)
 
 -- ---- what goes along with a binder that is no arrow: those of its run
-
-or-false : (a : Bool) → a || false ≡ a
-or-false true = refl
-or-false false = refl
 
 run-of-pis : (x y : Binder) → x .isPi ≡ true → isArrow x ≡ false → goesAlong x y ≡ inRun true y
 unfolding goesAlong inRun isNamedPi
@@ -75,13 +72,9 @@ starts-run x n = by (x .isPi) refl
     by true e = own-pi x e n
     by false e = own-lambda x e
 
-and-first : (a b : Bool) → a && b ≡ true → a ≡ true
-and-first true b e = refl
-and-first false b e = e
-
 arrow-is-pi : (x : Binder) → isArrow x ≡ true → x .isPi ≡ true
 unfolding isArrow
-arrow-is-pi x e = and-first (x .isPi) _ e
+arrow-is-pi x e = and-left (x .isPi) _ e
 
 -- an arrow binder is one whatever its type
 pub arrow-type : (i u : Bool) (n : Name) (s : ℕ) (t v : Expr) (q : ℕ) →
@@ -92,32 +85,32 @@ arrow-type i u n s t v q = refl
 
 -- ---- no binder
 
-module _ (indent : ℕ) (p : Pool) (k : Stack) where
-  pub part-none : (h m : ℕ) (e : Expr) → isBinder e ≡ false → chainPart indent p k h m e ≡ inScope indent p k h e
+module _ (opts : PpOptions) (p : Pool) (k : Stack) where
+  pub part-none : (h m : ℕ) (e : Expr) → isBinder e ≡ false → chainPart opts p k h m e ≡ inScope opts p k h e
   unfolding chainPart
   part-none h m e n =
-      rw (scoped-none k h m e n, scope-none h m e n, body-none e n) (no-binders indent (printed indent p k) (inScope indent p k h e))
+      rw (scoped-none k h m e n, scope-none h m e n, body-none e n) (no-binders opts (printed opts p k) (inScope opts p k h e))
 
 -- the level of binders
-module _ (indent : ℕ) (pp : Expr → Parenable) where
-  run-inner : (c : Bool) (bs : List Binder) (tail : Parenable) → cond c (forallPar indent pp bs tail) (funPar indent pp bs tail) .inner ≡ 0
+module _ (opts : PpOptions) (pp : Expr → Parenable) where
+  run-inner : (c : Bool) (bs : List Binder) (tail : Parenable) → cond c (forallPar opts pp bs tail) (funPar opts pp bs tail) .inner ≡ 0
   unfolding forallPar funPar
   run-inner true bs tail = refl
   run-inner false bs tail = refl
 
-  pub binders-level : (x : Binder) (xs : List Binder) (body : Parenable) → bindersPar indent pp (x ∷ xs) body .inner ≡ levelOf (isArrow x)
+  pub binders-level : (x : Binder) (xs : List Binder) (body : Parenable) → bindersPar opts pp (x ∷ xs) body .inner ≡ levelOf (isArrow x)
   unfolding levelOf arrowPar
   binders-level x xs body = by (isArrow x) refl
     where
-      by : (v : Bool) → isArrow x ≡ v → bindersPar indent pp (x ∷ xs) body .inner ≡ cond v 24 0
-      by true e = ap (λ (c : Parenable). c .inner) (arrow-first indent pp x xs body e (arrow-is-pi x e))
-      by false e = ap (λ (c : Parenable). c .inner) (run-first indent pp x xs body e) ∙ run-inner (x .isPi) _ _
+      by : (v : Bool) → isArrow x ≡ v → bindersPar opts pp (x ∷ xs) body .inner ≡ cond v 24 0
+      by true e = ap (λ (c : Parenable). c .inner) (arrow-first opts pp x xs body e (arrow-is-pi x e))
+      by false e = ap (λ (c : Parenable). c .inner) (run-first opts pp x xs body e) ∙ run-inner (x .isPi) _ _
 
 -- ---- a binder
 
-module _ (indent : ℕ) (p : Pool) (k : Stack) (i : Bool) (q : ℕ) (a : Name) (s : ℕ) (t b : Expr) (h m : ℕ) where
+module _ (opts : PpOptions) (p : Pool) (k : Stack) (i : Bool) (q : ℕ) (a : Name) (s : ℕ) (t b : Expr) (h m : ℕ) where
   abbrev pp : Expr → Parenable
-  pp = printed indent p k
+  pp = printed opts p k
 
   abbrev e : Expr
   e = mkBinder i q a s t b
@@ -129,28 +122,28 @@ module _ (indent : ℕ) (p : Pool) (k : Stack) (i : Bool) (q : ℕ) (a : Name) (
   xs = scoped k (suc m) (suc m) b
 
   abbrev body : Parenable
-  body = inScope indent p k (lastScope h m e) (chainBody e)
+  body = inScope opts p k (lastScope h m e) (chainBody e)
 
-  part-made : chainPart indent p k h m e ≡ bindersPar indent pp (x ∷ xs) body
+  part-made : chainPart opts p k h m e ≡ bindersPar opts pp (x ∷ xs) body
   unfolding chainPart
-  part-made = ap (λ (l : List Binder). bindersPar indent pp l body) (scoped-made i q a s t b k h m)
+  part-made = ap (λ (l : List Binder). bindersPar opts pp l body) (scoped-made i q a s t b k h m)
 
   -- what follows n binders
-  tail-is : (n : ℕ) → 0 < n → n ≤ chainLength e → bindersPar indent pp (drop n (x ∷ xs)) body ≡ chainPart indent p k (m + n) (m + n) (dropChain n e)
+  tail-is : (n : ℕ) → 0 < n → n ≤ chainLength e → bindersPar opts pp (drop n (x ∷ xs)) body ≡ chainPart opts p k (m + n) (m + n) (dropChain n e)
   unfolding chainPart
   tail-is n some few =
       let l : Later p k h m n e = later-some p k h m n e some few in
-      sym (rw (l .rest, l .scope, l .body) (ap (λ (y : List Binder). bindersPar indent pp (drop n y) body) (scoped-made i q a s t b k h m)))
+      sym (rw (l .rest, l .scope, l .body) (ap (λ (y : List Binder). bindersPar opts pp (drop n y) body) (scoped-made i q a s t b k h m)))
 
-  arrow-part : isArrow x ≡ true → chainPart indent p k h m e ≡ arrowPar indent pp x (chainPart indent p k (m + 1) (m + 1) (dropChain 1 e))
+  arrow-part : isArrow x ≡ true → chainPart opts p k h m e ≡ arrowPar opts pp x (chainPart opts p k (m + 1) (m + 1) (dropChain 1 e))
   arrow-part y =
       part-made
-      ∙ arrow-first indent pp x xs body y (arrow-is-pi x y)
-      ∙ ap (arrowPar indent pp x) (tail-is 1 (omega arith) (rw (length-made i q a s t b) (omega arith)))
+      ∙ arrow-first opts pp x xs body y (arrow-is-pi x y)
+      ∙ ap (arrowPar opts pp x) (tail-is 1 (omega arith) (rw (length-made i q a s t b) (omega arith)))
 
-  run-part : isArrow x ≡ false → (n : ℕ) → n ≡ runLength i e → chainPart indent p k h m e ≡
-      cond i (forallPar indent pp (take n (scoped k h m e)) (chainPart indent p k (m + n) (m + n) (dropChain n e)))
-      (funPar indent pp (take n (scoped k h m e)) (chainPart indent p k (m + n) (m + n) (dropChain n e)))
+  run-part : isArrow x ≡ false → (n : ℕ) → n ≡ runLength i e → chainPart opts p k h m e ≡
+      cond i (forallPar opts pp (take n (scoped k h m e)) (chainPart opts p k (m + n) (m + n) (dropChain n e)))
+      (funPar opts pp (take n (scoped k h m e)) (chainPart opts p k (m + n) (m + n) (dropChain n e)))
   unfolding leading
   run-part y n z =
       let run : leading (inRun i) (scoped k h m e) ≡ x ∷ leading (inRun i) xs =
@@ -162,53 +155,53 @@ module _ (indent : ℕ) (p : Pool) (k : Stack) (i : Bool) (q : ℕ) (a : Name) (
       let first : leading (goesAlong x) xs ≡ leading (inRun i) xs = leading-agrees (goesAlong x) (inRun i) (λ w. along-run x w y) xs in
       let after : following (goesAlong x) xs ≡ drop n (x ∷ xs) =
       following-agrees (goesAlong x) (inRun i) (λ w. along-run x w y) xs ∙ following-drops (inRun i) xs ∙ ap (λ (c : ℕ). drop c (x ∷ xs)) (sym count) in
-      let rest : bindersPar indent pp (following (goesAlong x) xs) body ≡ chainPart indent p k (m + n) (m + n) (dropChain n e) =
-      ap (λ (l : List Binder). bindersPar indent pp l body) after ∙ tail-is n (omega arith) few in
+      let rest : bindersPar opts pp (following (goesAlong x) xs) body ≡ chainPart opts p k (m + n) (m + n) (dropChain n e) =
+      ap (λ (l : List Binder). bindersPar opts pp l body) after ∙ tail-is n (omega arith) few in
       part-made
-      ∙ run-first indent pp x xs body y
+      ∙ run-first opts pp x xs body y
       ∙ rw (rest, first, whole)
 
   first-arrow : isArrow (firstBinder e) ≡ isArrow x
   first-arrow = ap isArrow (first-made i q a s t b) ∙ arrow-type i (occurs 0 b) a s t (rename (placeIn k h) t) q
 
   -- the level of a part
-  pub part-level : (v : Bool) → v ≡ isArrow (firstBinder e) → chainPart indent p k h m e .inner ≡ levelOf v
-  part-level v z = ap (λ (c : Parenable). c .inner) part-made ∙ binders-level indent pp x xs body ∙ ap levelOf (sym (z ∙ first-arrow))
+  pub part-level : (v : Bool) → v ≡ isArrow (firstBinder e) → chainPart opts p k h m e .inner ≡ levelOf v
+  part-level v z = ap (λ (c : Parenable). c .inner) part-made ∙ binders-level opts pp x xs body ∙ ap levelOf (sym (z ∙ first-arrow))
 
   part-doc : (v : Bool) (n : ℕ) (st : State) → v ≡ isArrow (firstBinder e) → n ≡ partLength v e →
-      emit (chainPart indent p k h m e .doc) st
-      ≡ putJoin (emit (under (levelOf v) (chainPart indent p k (m + n) (m + n) (dropChain n e))) (runPart indent p k v (firstBinder e .isPi) h m n e st))
+      emit (chainPart opts p k h m e .doc) st
+      ≡ putJoin (emit (under (levelOf v) (chainPart opts p k (m + n) (m + n) (dropChain n e))) (runPart opts p k v (firstBinder e .isPi) h m n e st))
   unfolding levelOf runPart groupsPart partLength inScope
   part-doc true n st z c =
       rw (c, first-made i q a s t b)
       (ap (λ (y : Parenable). emit (y .doc) st) (arrow-part (sym (z ∙ first-arrow)))
-      ∙ arrow-puts indent pp x (chainPart indent p k (m + 1) (m + 1) (dropChain 1 e)) st)
+      ∙ arrow-puts opts pp x (chainPart opts p k (m + 1) (m + 1) (dropChain 1 e)) st)
   part-doc false n st z c =
       let own : firstBinder e .isPi ≡ i = ap (λ (y : Binder). y .isPi) (first-made i q a s t b) in
       let count : n ≡ runLength i e = c ∙ ap (λ (v : Bool). runLength v e) own in
       rw own
       (ap (λ (y : Parenable). emit (y .doc) st) (run-part (sym (z ∙ first-arrow)) n count)
-      ∙ run-puts indent pp i (take n (scoped k h m e)) (chainPart indent p k (m + n) (m + n) (dropChain n e)) st)
+      ∙ run-puts opts pp i (take n (scoped k h m e)) (chainPart opts p k (m + n) (m + n) (dropChain n e)) st)
 
   -- a part: what it starts with, and what follows
   pub part-puts : (outer : ℕ) (v : Bool) (n : ℕ) (st : State) → v ≡ isArrow (firstBinder e) → n ≡ partLength v e →
-      emit (under outer (chainPart indent p k h m e)) st
+      emit (under outer (chainPart opts p k h m e)) st
       ≡ closeIf (ltb (levelOf v) outer)
       (putJoin
-      (emit (under (levelOf v) (chainPart indent p k (m + n) (m + n) (dropChain n e)))
-      (runPart indent p k v (firstBinder e .isPi) h m n e (openIf (ltb (levelOf v) outer) st))))
+      (emit (under (levelOf v) (chainPart opts p k (m + n) (m + n) (dropChain n e)))
+      (runPart opts p k v (firstBinder e .isPi) h m n e (openIf (ltb (levelOf v) outer) st))))
   part-puts outer v n st z c =
-      under-emits outer (chainPart indent p k h m e) st
-      ∙ ap (λ (l : ℕ). closeIf (ltb l outer) (emit (chainPart indent p k h m e .doc) (openIf (ltb l outer) st))) (part-level v z)
+      under-emits outer (chainPart opts p k h m e) st
+      ∙ ap (λ (l : ℕ). closeIf (ltb l outer) (emit (chainPart opts p k h m e .doc) (openIf (ltb l outer) st))) (part-level v z)
       ∙ ap (closeIf (ltb (levelOf v) outer)) (part-doc v n (openIf (ltb (levelOf v) outer) st) z c)
 
 -- the same, at a row's tree, with the code's own numbers
-pub parts-at : (indent : ℕ) (p : Pool) (k : Stack) (i : Bool) (q : ℕ) (a : Name) (s : ℕ) (t b : Expr) (h m n next outer level : ℕ) (v : Bool) (e₀ e₁ : Expr) (st : State) →
+pub parts-at : (opts : PpOptions) (p : Pool) (k : Stack) (i : Bool) (q : ℕ) (a : Name) (s : ℕ) (t b : Expr) (h m n next outer level : ℕ) (v : Bool) (e₀ e₁ : Expr) (st : State) →
     e₀ ≡ mkBinder i q a s t b → v ≡ isArrow (firstBinder e₀) → n ≡ partLength v e₀ → e₁ ≡ dropChain n e₀ → next ≡ m + n → level ≡ levelOf v →
     closeIf (ltb level outer)
-    (putJoin (emit (under level (chainPart indent p k next next e₁)) (runPart indent p k v (firstBinder e₀ .isPi) h m n e₀ (openIf (ltb level outer) st))))
-    ≡ emit (under outer (chainPart indent p k h m e₀)) st
-parts-at indent p k i q a s t b h m n next outer level v e₀ e₁ st made arrow length rest nexts levels =
+    (putJoin (emit (under level (chainPart opts p k next next e₁)) (runPart opts p k v (firstBinder e₀ .isPi) h m n e₀ (openIf (ltb level outer) st))))
+    ≡ emit (under outer (chainPart opts p k h m e₀)) st
+parts-at opts p k i q a s t b h m n next outer level v e₀ e₁ st made arrow length rest nexts levels =
     let z : v ≡ isArrow (firstBinder (mkBinder i q a s t b)) = rw made at arrow in
     let c : n ≡ partLength v (mkBinder i q a s t b) = rw made at length in
-    rw (rest, nexts, levels, made) (sym (part-puts indent p k i q a s t b h m outer v n st z c))
+    rw (rest, nexts, levels, made) (sym (part-puts opts p k i q a s t b h m outer v n st z c))

@@ -6,38 +6,42 @@ use mathlib.Core.List.{List}
 use lib.ListN.{length}
 use mathlib.Core.Path.{_≡_, refl, sym, ap, ap₂, _∙_}
 use lib.Dec.{ltb, eqb}
-use borrow.Author.Tests.{ne-eqb}
 use Rattle.pool.specs.declared.tables.Tables.{Tables}
-use Rattle.pool.specs.Tables.{Pool, N, E, exprWord}
+use Rattle.pool.specs.Tables.{Pool, N, exprWord}
 use Rattle.pool.specs.Areas.{over}
 use Rattle.pool.specs.Sound.{Sound}
-use Rattle.pool.specs.Tree.{Name, Expr, var, sort, const, app, pi, lam, letᵉ, proj, nat, str, depth}
+use Rattle.pool.specs.Tree.{Expr, var, sort, const, app, pi, lam, letᵉ, proj, nat, str, depth}
 use Rattle.pool.specs.Unfold.{nameAt, exprAt}
 use Rattle.pool.proofs.ExprUnfolds.{var-at, app-at, let-at, proj-at, var-ok, app-ok, let-ok, proj-ok, kind-small, label-word, depth-word, depth-small}
 use Rattle.document.specs.Sink.{State, sinkOf, putBreak, putJoin, putNest, putGroup, putNames, emit}
-use Rattle.names.specs.Docs.{under, tile}
+use Rattle.pieces.specs.Docs.{under, tile}
 use Rattle.names.specs.Names.{nameDoc}
-use Rattle.names.specs.Parens.{openIf, closeIf}
-use Rattle.names.specs.Tiles.{endTile}
-use Rattle.names.proofs.Emitting.{emit-stopped}
-use Rattle.pretty_printer.specs.declared.stack.Stack.{Stack}
-use Rattle.pretty_printer.specs.Asked.{Asked, InChain, ChainPushed, PartEnd, GroupEnd}
-use Rattle.pretty_printer.specs.Binders.{Binder, isArrow}
-use Rattle.pretty_printer.specs.Exprs.{varDoc}
-use Rattle.pretty_printer.specs.Scopes.{namesOf, placeIn, push, Held, scoped, Chained}
-use Rattle.pretty_printer.specs.Steps.{firstBinder, isBinder, binderKind, partLength, chainLength, dropChain, nameDocs, groupLength, mkBinder, runLength}
-use Rattle.pretty_printer.specs.Puts.{putColon, putArrow, startRun, endRun, openGroup, closeGroup}
-use Rattle.pretty_printer.specs.Parts.{leafKind, leafDoc, endProj, startLet, putAssign, endLet, inScope, appPart, chainPart, groupsPart, runPart, letHead, letBody, levelOf}
-use Rattle.pretty_printer.proofs.ScopeLaws.{push-named, chain-length}
-use Rattle.pretty_printer.proofs.ViewLaws.{BinderRow, binder-at, binder-row, length-made, run-made, first-made, run-starts}
-use Rattle.pretty_printer.proofs.BinderLaws.{first-at}
-use Rattle.pretty_printer.proofs.DropLaws.{Later, later-some, length-scoped, run-within, group-within}
+use Rattle.pieces.specs.Parens.{openIf, closeIf}
+use Rattle.pieces.specs.Tiles.{endTile}
+use Rattle.pieces.proofs.Emitting.{emit-stopped}
+use Rattle.binders.specs.declared.stack.Stack.{Stack}
+use Rattle.binders.specs.Asked.{Asked, InChain, ChainPushed, PartEnd, GroupEnd}
+use Rattle.binders.specs.Binders.{Binder, isArrow}
+use Rattle.binders.specs.Variables.{varDoc}
+use Rattle.binders.specs.Scopes.{namesOf, placeIn, push, scoped, Chained}
+use Rattle.binders.specs.Steps.{firstBinder, binderKind, partLength, chainLength, dropChain, nameDocs, groupLength}
+use Rattle.binders.specs.Puts.{putColon, putArrow, startRun, endRun, openGroup, closeGroup}
+use Rattle.pretty_printer.specs.Parts.{inScope, appPart, chainPart, groupsPart, runPart, letHead, letBody}
+use Rattle.binders.specs.Leaves.{leafKind, leafDoc}
+use Rattle.binders.specs.Puts.{endProj, startLet, putAssign, endLet, levelOf}
+use Rattle.binders.proofs.ScopeLaws.{push-named, chain-length}
+use Rattle.binders.proofs.ViewLaws.{BinderRow, binder-at, binder-row, length-made, run-starts}
+use Rattle.binders.proofs.BinderLaws.{first-at}
+use Rattle.binders.proofs.DropLaws.{Later, later-some, length-scoped, run-within, group-within}
 use Rattle.pretty_printer.proofs.TelescopeLaws.{no-groups, groups-at}
 use Rattle.pretty_printer.proofs.PartLaws.{part-none, parts-at}
-use Rattle.pretty_printer.proofs.CallLaws.{var-prints, leaf-prints, proj-prints, app-prints, spine-prints, head-prints, let-prints, let-body, chain-stops, chain-goes-on}
+use Rattle.pretty_printer.proofs.CallLaws.{var-prints, leaf-prints, proj-prints, app-prints, spine-prints, head-prints, let-prints, let-body, chain-stops}
+use Rattle.pretty_printer.proofs.CallLaws.{chain-goes-on}
+use Rattle.binders.specs.Options.{PpOptions}
 
 -- the kinds that are left
-pub other-kinds : (kind : ℕ) → kind < 10 → (kind ≡ 0 → ⊥) → (kind ≡ 3 → ⊥) → (kind ≡ 6 → ⊥) → (kind ≡ 7 → ⊥) → binderKind kind ≡ false → leafKind kind ≡ true
+pub other-kinds : (kind : ℕ) → kind < 10 → (kind ≡ 0 → ⊥) → (kind ≡ 3 → ⊥) → (kind ≡ 6 → ⊥) → (kind ≡ 7 → ⊥) → binderKind kind ≡ false → leafKind
+    kind ≡ true
 unfolding binderKind leafKind
 other-kinds zero l a b c d e = absurd (a refl)
 other-kinds (suc zero) l a b c d e = refl
@@ -113,79 +117,80 @@ module _ {bs ns ws : List ℕ} {t : Tables} {k : Stack} {h r : ℕ} (a : Asked b
         row = omega (arith, a .row);
       }
 
-  module _ (indent : ℕ) where
+  module _ (opts : PpOptions) where
     pub var-row : (i outer : ℕ) (st : State) → w 0 ≡ 0 → i ≡ w 1 → outer ≤ 1024 →
-        emit (varDoc (namesOf p k) (placeIn k h i) (placeIn k h i)) st ≡ emit (under outer (inScope indent p k h (exprAt p r))) st
-    var-row i outer st e z l = rw (var-at p sound r (a .row) e, z) (var-prints indent p k h outer (w 1) st l)
+        emit (varDoc (namesOf p k) (placeIn k h i) (placeIn k h i)) st ≡ emit (under outer (inScope opts p k h (exprAt p r))) st
+    var-row i outer st e z l = rw (var-at p sound r (a .row) e, z) (var-prints opts p k h outer (w 1) st l)
 
-    pub leaf-row : (outer : ℕ) (st : State) → leafKind (w 0) ≡ true → outer ≤ 1024 → emit (leafDoc (exprAt p r)) st ≡ emit (under outer (inScope indent p k h (exprAt p r))) st
-    leaf-row outer st e l = leaf-prints indent p k h outer (exprAt p r) st l (ap leafKind (label-word p sound r (a .row)) ∙ e)
+    pub leaf-row : (outer : ℕ) (st : State) → leafKind (w 0) ≡ true → outer ≤ 1024 → emit (leafDoc (exprAt p r)) st ≡ emit (under outer (inScope opts p k h (exprAt p r))) st
+    leaf-row outer st e l = leaf-prints opts p k h outer (exprAt p r) st l (ap leafKind (label-word p sound r (a .row)) ∙ e)
 
     pub proj-row : (x i : ℕ) (st : State) → w 0 ≡ 7 → x ≡ w 3 → i ≡ w 2 →
-        endProj i (emit (under 1024 (inScope indent p k h (exprAt p x))) st) ≡ emit (under 1024 (inScope indent p k h (exprAt p r))) st
-    proj-row x i st e z y = rw (proj-at p sound r (a .row) e, z, y) (sym (proj-prints indent p k h 1024 (nameAt p (w 1)) (w 2) (exprAt p (w 3)) st (omega arith)))
+        endProj i (emit (under 1024 (inScope opts p k h (exprAt p x))) st) ≡ emit (under 1024 (inScope opts p k h (exprAt p r))) st
+    proj-row x i st e z y = rw (proj-at p sound r (a .row) e, z, y) (sym (proj-prints opts p k h 1024 (nameAt p (w 1)) (w 2) (exprAt p (w 3)) st (omega arith)))
 
     -- a projection's level is the highest
-    pub proj-level : (outer : ℕ) (st : State) → w 0 ≡ 7 → outer ≤ 1024 → emit (under 1024 (inScope indent p k h (exprAt p r))) st ≡ emit (under outer (inScope indent p k h (exprAt p r))) st
+    pub proj-level : (outer : ℕ) (st : State) → w 0 ≡ 7 → outer ≤ 1024 → emit (under 1024 (inScope opts p k h (exprAt p r))) st ≡ emit (under outer (inScope opts p k h (exprAt p r))) st
     proj-level outer st e l =
         rw (proj-at p sound r (a .row) e)
-        (proj-prints indent p k h 1024 (nameAt p (w 1)) (w 2) (exprAt p (w 3)) st (omega arith)
-        ∙ sym (proj-prints indent p k h outer (nameAt p (w 1)) (w 2) (exprAt p (w 3)) st l))
+        (proj-prints opts p k h 1024 (nameAt p (w 1)) (w 2) (exprAt p (w 3)) st (omega arith)
+        ∙ sym (proj-prints opts p k h outer (nameAt p (w 1)) (w 2) (exprAt p (w 3)) st l))
 
     pub app-row : (outer : ℕ) (st : State) → w 0 ≡ 3 →
-        closeIf (ltb 1023 outer) (putNest indent (putGroup (emit (appPart indent p k h (exprAt p r)) (openIf (ltb 1023 outer) st))))
-        ≡ emit (under outer (inScope indent p k h (exprAt p r))) st
-    app-row outer st e = rw (app-at p sound r (a .row) e) (sym (app-prints indent p k h outer (exprAt p (w 1)) (exprAt p (w 2)) st))
+        closeIf (ltb 1023 outer) (putNest (opts .indent) (putGroup (emit (appPart opts p k h (exprAt p r)) (openIf (ltb 1023 outer) st))))
+        ≡ emit (under outer (inScope opts p k h (exprAt p r))) st
+    app-row outer st e = rw (app-at p sound r (a .row) e) (sym (app-prints opts p k h outer (exprAt p (w 1)) (exprAt p (w 2)) st))
 
     pub spine-row : (f x : ℕ) (st : State) → w 0 ≡ 3 → f ≡ w 1 → x ≡ w 2 →
-        endTile (putGroup (emit (under 1024 (inScope indent p k h (exprAt p x))) (putBreak 1 (emit (appPart indent p k h (exprAt p f)) st))))
-        ≡ emit (appPart indent p k h (exprAt p r)) st
-    spine-row f x st e y z = rw (app-at p sound r (a .row) e, y, z) (sym (spine-prints indent p k h (exprAt p (w 1)) (exprAt p (w 2)) st))
+        endTile (putGroup (emit (under 1024 (inScope opts p k h (exprAt p x))) (putBreak 1 (emit (appPart opts p k h (exprAt p f)) st))))
+        ≡ emit (appPart opts p k h (exprAt p r)) st
+    spine-row f x st e y z = rw (app-at p sound r (a .row) e, y, z) (sym (spine-prints opts p k h (exprAt p (w 1)) (exprAt p (w 2)) st))
 
-    pub head-row : (st : State) → (w 0 ≡ 3 → ⊥) → putGroup (emit (under 1023 (inScope indent p k h (exprAt p r))) st) ≡ emit (appPart indent p k h (exprAt p r)) st
-    head-row st n = sym (head-prints indent p k h (exprAt p r) st (λ e. n (sym (label-word p sound r (a .row)) ∙ e)))
+    pub head-row : (st : State) → (w 0 ≡ 3 → ⊥) → putGroup (emit (under 1023 (inScope opts p k h (exprAt p r))) st) ≡ emit (appPart opts p k h (exprAt p r)) st
+    head-row st n = sym (head-prints opts p k h (exprAt p r) st (λ e. n (sym (label-word p sound r (a .row)) ∙ e)))
 
     pub let-row : (outer : ℕ) (st : State) → w 0 ≡ 6 →
         closeIf (ltb 0 outer)
-        (putGroup (putJoin (letBody indent p k h r (nameAt p (w 1)) (exprAt p (w 4)) (letHead indent p k h (nameAt p (w 1)) (exprAt p (w 2)) (exprAt p (w 3)) (openIf (ltb 0 outer) st)))))
-        ≡ emit (under outer (inScope indent p k h (exprAt p r))) st
+        (putGroup (putJoin (letBody opts p k h r (nameAt p (w 1)) (exprAt p (w 4)) (letHead opts p k h (nameAt p (w 1)) (exprAt p (w 2)) (exprAt p (w 3)) (openIf (ltb 0 outer) st)))))
+        ≡ emit (under outer (inScope opts p k h (exprAt p r))) st
     let-row outer st e =
-        rw (let-at p sound r (a .row) e) (sym (let-prints indent p k h outer r (nameAt p (w 1)) (exprAt p (w 2)) (exprAt p (w 3)) (exprAt p (w 4)) (w 5) st))
+        rw (let-at p sound r (a .row) e) (sym (let-prints opts p k h outer r (nameAt p (w 1)) (exprAt p (w 2)) (exprAt p (w 3)) (exprAt p (w 4)) (w 5) st))
 
     pub let-stops : (n : ℕ) (st : State) (name : ℕ) (x : Expr) → n ≡ k .count + 1 → eqb (sinkOf (putNames r n st) .stop) 0 ≡ false →
-        putNames r n st ≡ letBody indent p k h r (nameAt p name) x st
+        putNames r n st ≡ letBody opts p k h r (nameAt p name) x st
     unfolding letBody
     let-stops n st name x c s = rw (← c) (sym (emit-stopped _ (putNames r n st) s))
 
     pub let-goes-on : (n name x : ℕ) (l : Stack) (st : State) → n ≡ k .count + 1 → name ≡ w 1 → x ≡ w 4 → k .count < 1024 → l ≡ push k name h →
-        emit (under 0 (inScope indent p l n (exprAt p x))) (putNames r n st) ≡ letBody indent p k h r (nameAt p (w 1)) (exprAt p (w 4)) st
+        emit (under 0 (inScope opts p l n (exprAt p x))) (putNames r n st) ≡ letBody opts p k h r (nameAt p (w 1)) (exprAt p (w 4)) st
     let-goes-on n name x l st c y z room is =
-        rw (← y, ← z, c) (let-body indent p k h name r (exprAt p x) l st (a .held .linked) room (a .scope) is)
+        rw (← y, ← z, c) (let-body opts p k h name r (exprAt p x) l st (a .held .linked) room (a .scope) is)
 
     pub chain-row-stops : (outer level count : ℕ) (v : Bool) (st : State) → binderKind (w 0) ≡ true → v ≡ isArrow (firstBinder (exprAt p r)) → level ≡ levelOf v →
         count ≡ k .count + chainLength (exprAt p r) → eqb (sinkOf (putNames r count (openIf (ltb level outer) st)) .stop) 0 ≡ false →
-        putNames r count (openIf (ltb level outer) st) ≡ emit (under outer (inScope indent p k h (exprAt p r))) st
+        putNames r count (openIf (ltb level outer) st) ≡ emit (under outer (inScope opts p k h (exprAt p r))) st
     chain-row-stops outer level count v st b f l c s =
-        chain-stops indent p k h (eqb (w 0) 4) r (nameAt p (w 1)) (w 2) (exprAt p (w 3)) (exprAt p (w 4)) (exprAt p r) outer level count v st (binder-at p sound r (a .row) b .made) f l c s
+        chain-stops opts p k h (eqb (w 0) 4) r (nameAt p (w 1)) (w 2) (exprAt p (w 3)) (exprAt p (w 4)) (exprAt p r) outer level count v st (binder-at p sound r (a .row) b .made) f l c s
 
     pub chain-row-goes-on : (outer level count : ℕ) (v : Bool) (l : Stack) (st : State) → binderKind (w 0) ≡ true → v ≡ isArrow (firstBinder (exprAt p r)) → level ≡ levelOf v →
         count ≡ k .count + chainLength (exprAt p r) → ChainPushed p k h (exprAt p r) l →
-        closeIf (ltb level outer) (emit (under 0 (chainPart indent p l h (k .count) (exprAt p r))) (putNames r count (openIf (ltb level outer) st)))
-        ≡ emit (under outer (inScope indent p k h (exprAt p r))) st
+        closeIf (ltb level outer) (emit (under 0 (chainPart opts p l h (k .count) (exprAt p r))) (putNames r count (openIf (ltb level outer) st)))
+        ≡ emit (under outer (inScope opts p k h (exprAt p r))) st
     chain-row-goes-on outer level count v l st b f e c ch =
-        chain-goes-on indent p k h (eqb (w 0) 4) r (nameAt p (w 1)) (w 2) (exprAt p (w 3)) (exprAt p (w 4)) (exprAt p r) outer level count v l st (binder-at p sound r (a .row) b .made) f e c (a .held) (a .scope) ch
+        chain-goes-on opts p k h (eqb (w 0) 4) r (nameAt p (w 1)) (w 2) (exprAt p (w 3)) (exprAt p (w 4)) (exprAt p r) outer level count v l st
+        (binder-at p sound r (a .row) b .made) f e c (a .held) (a .scope) ch
 
     pub tail-row : (m outer : ℕ) (st : State) → binderKind (w 0) ≡ false →
-        emit (under outer (inScope indent p k h (exprAt p r))) st ≡ emit (under outer (chainPart indent p k h m (exprAt p r))) st
-    tail-row m outer st n = rw (part-none indent p k h m (exprAt p r) (sym (binder-row p sound r (a .row)) ∙ n))
+        emit (under outer (inScope opts p k h (exprAt p r))) st ≡ emit (under outer (chainPart opts p k h m (exprAt p r))) st
+    tail-row m outer st n = rw (part-none opts p k h m (exprAt p r) (sym (binder-row p sound r (a .row)) ∙ n))
 
     pub arrow-row : (v : Bool) (x m n : ℕ) (st : State) → binderKind (w 0) ≡ true → v ≡ true → x ≡ w 3 →
-        putArrow indent (emit (under 25 (inScope indent p k h (exprAt p x))) st) ≡ runPart indent p k v (firstBinder (exprAt p r) .isPi) h m n (exprAt p r) st
+        putArrow (opts .indent) (emit (under 25 (inScope opts p k h (exprAt p x))) st) ≡ runPart opts p k v (firstBinder (exprAt p r) .isPi) h m n (exprAt p r) st
     unfolding runPart
     arrow-row v x m n st b e z = rw (e, first-at p sound r (a .row) b, z)
 
     pub run-row : (v c : Bool) (m n : ℕ) (st : State) → v ≡ false → c ≡ firstBinder (exprAt p r) .isPi →
-        endRun indent c (groupsPart indent p k true h m n (exprAt p r) (startRun c st)) ≡ runPart indent p k v (firstBinder (exprAt p r) .isPi) h m n (exprAt p r) st
+        endRun (opts .indent) c (groupsPart opts p k true h m n (exprAt p r) (startRun c st)) ≡ runPart opts p k v (firstBinder (exprAt p r) .isPi) h m n (exprAt p r) st
     unfolding runPart
     run-row v c m n st e z = rw (e, z)
 
@@ -221,23 +226,24 @@ module _ {bs ns ws : List ℕ} {t : Tables} {k : Stack} {h m r : ℕ} (c : InCha
       let len : length (scoped k h m e) + m ≡ k .count = chain-length pᶜ k h m e (c .chained) in
       omega (arith, len, length-scoped k h m e)
 
-  module _ (indent : ℕ) where
+  module _ (opts : PpOptions) where
     pub part-row : (v : Bool) (n x next outer level : ℕ) (st : State) → v ≡ isArrow (firstBinder e) → level ≡ levelOf v → PartEnd pᶜ v r x n → next ≡ m + n →
         closeIf (ltb level outer)
-        (putJoin (emit (under level (chainPart indent pᶜ k next next (exprAt pᶜ x))) (runPart indent pᶜ k v (firstBinder e .isPi) h m n e (openIf (ltb level outer) st))))
-        ≡ emit (under outer (chainPart indent pᶜ k h m e)) st
+        (putJoin (emit (under level (chainPart opts pᶜ k next next (exprAt pᶜ x))) (runPart opts pᶜ k v (firstBinder e .isPi) h m n e (openIf (ltb level outer) st))))
+        ≡ emit (under outer (chainPart opts pᶜ k h m e)) st
     part-row v n x next outer level st f l end z =
-        parts-at indent pᶜ k (eqb (exprWord ws r 0) 4) r (nameAt pᶜ (exprWord ws r 1)) (exprWord ws r 2) (exprAt pᶜ (exprWord ws r 3)) (exprAt pᶜ (exprWord ws r 4))
+        parts-at opts pᶜ k (eqb (exprWord ws r 0) 4) r (nameAt pᶜ (exprWord ws r 1)) (exprWord ws r 2) (exprAt pᶜ (exprWord ws r 3)) (exprAt pᶜ (exprWord ws r 4))
         h m n next outer level v e (exprAt pᶜ x) st (made .made) f (end .length) (end .tree) z l
 
-    pub groups-row : (first : Bool) (n x count next left style type : ℕ) (st : State) → 0 < n → n ≤ chainLength e → GroupEnd pᶜ n r x count → next ≡ m + count → left ≡ n - count →
+    pub groups-row : (first : Bool) (n x count next left style type : ℕ) (st : State) → 0 < n → n ≤ chainLength e → GroupEnd pᶜ n r x count
+        → next ≡ m + count → left ≡ n - count →
         style ≡ exprWord ws r 2 → type ≡ exprWord ws r 3 →
-        groupsPart indent pᶜ k false next next left (exprAt pᶜ x)
-        (closeGroup first indent style (emit (under 1 (inScope indent pᶜ k h (exprAt pᶜ type))) (putColon (emit (tile (nameDocs count e)) (openGroup first style st)))))
-        ≡ groupsPart indent pᶜ k first h m n e st
+        groupsPart opts pᶜ k false next next left (exprAt pᶜ x)
+        (closeGroup first (opts .indent) style (emit (under 1 (inScope opts pᶜ k h (exprAt pᶜ type))) (putColon (emit (tile (nameDocs count e)) (openGroup first style st)))))
+        ≡ groupsPart opts pᶜ k first h m n e st
     groups-row first n x count next left style type st some few end z y es et =
         rw (es, et)
-        (groups-at indent pᶜ k (c .asked .held .linked) (eqb (exprWord ws r 0) 4) r (nameAt pᶜ (exprWord ws r 1)) (exprWord ws r 2) (exprAt pᶜ (exprWord ws r 3)) (exprAt pᶜ (exprWord ws r 4))
+        (groups-at opts pᶜ k (c .asked .held .linked) (eqb (exprWord ws r 0) 4) r (nameAt pᶜ (exprWord ws r 1)) (exprWord ws r 2) (exprAt pᶜ (exprWord ws r 3)) (exprAt pᶜ (exprWord ws r 4))
         h m n count next left first e (exprAt pᶜ x) st (made .made) (c .chained) (c .asked .scope) some few (end .length) (end .tree) z y)
 
 -- how many binders a part has
@@ -247,11 +253,14 @@ part-some true e n z l = omega arith
 part-some false e n z l = rw z (run-within (firstBinder e .isPi) e)
 
 -- a let's head, by the rows of its parts
-pub let-head-row : {bs ns ws : List ℕ} {t : Tables} {k : Stack} {h r : ℕ} (a : Asked bs ns ws t k h r) (indent n x y : ℕ) (st : State) → n ≡ exprWord ws r 1 → x ≡ exprWord ws r 2 → y ≡ exprWord ws r 3 →
-    endLet indent (emit (under 0 (inScope indent (over bs ns ws) k h (exprAt (over bs ns ws) y))) (putAssign (emit (under 1 (inScope indent (over bs ns ws) k h (exprAt (over bs ns ws) x))) (putColon (emit (nameDoc (nameAt (over bs ns ws) n)) (startLet st))))))
-    ≡ letHead indent (over bs ns ws) k h (nameAt (over bs ns ws) (exprWord ws r 1)) (exprAt (over bs ns ws) (exprWord ws r 2)) (exprAt (over bs ns ws) (exprWord ws r 3)) st
+pub let-head-row : {bs ns ws : List ℕ} {t : Tables} {k : Stack} {h r : ℕ} (a : Asked bs ns ws t k h r) (opts : PpOptions) (n x y : ℕ) (st : State)
+    → n ≡ exprWord ws r 1 → x ≡ exprWord ws r 2 → y ≡ exprWord ws r 3 →
+    endLet (opts .indent) (emit (under 0 (inScope opts (over bs ns ws) k h (exprAt (over bs ns ws) y)))
+    (putAssign (emit (under 1 (inScope opts (over bs ns ws) k h (exprAt (over bs ns ws) x)))
+    (putColon (emit (nameDoc (nameAt (over bs ns ws) n)) (startLet st))))))
+    ≡ letHead opts (over bs ns ws) k h (nameAt (over bs ns ws) (exprWord ws r 1)) (exprAt (over bs ns ws) (exprWord ws r 2)) (exprAt (over bs ns ws) (exprWord ws r 3)) st
 unfolding letHead
-let-head-row a indent n x y st e f g = rw (e, f, g)
+let-head-row a opts n x y st e f g = rw (e, f, g)
 
 pub positive : (n : ℕ) → (n ≡ 0 → ⊥) → 0 < n
 positive zero f = absurd (f refl)
@@ -323,9 +332,10 @@ groups-room c b n x count g l fits =
     let few = group-few _ n _ x count g l in chain-room c b count (omega (arith, few .1))
 
 -- no binders, no groups
-pub none-row : (indent : ℕ) (p : Pool) (k : Stack) (first : Bool) (h m n : ℕ) (e : Expr) (st : State) → n ≡ 0 → (first ≡ true → 0 < n) → st ≡ groupsPart indent p k first h m n e st
-none-row indent p k true h m n e st z f = absurd (let l : 0 < n = f refl in omega arith)
-none-row indent p k false h m n e st z f = rw z (sym (no-groups indent p k h m e st))
+pub none-row : (opts : PpOptions) (p : Pool) (k : Stack) (first : Bool) (h m n : ℕ) (e : Expr) (st : State) → n ≡ 0 → (first ≡ true → 0 < n)
+    → st ≡ groupsPart opts p k first h m n e st
+none-row opts p k true h m n e st z f = absurd (let l : 0 < n = f refl in omega arith)
+none-row opts p k false h m n e st z f = rw z (sym (no-groups opts p k h m e st))
 
 pub no-true : {A : Type 0} → false ≡ true → A
 no-true e = absurd (let z : _≡_ {A = ℕ} 0 1 = cc in omega arith)

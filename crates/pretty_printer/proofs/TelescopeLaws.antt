@@ -11,23 +11,24 @@ use Rattle.document.specs.Sink.{State, putBreak, emit}
 use Rattle.pool.specs.Tables.{Pool}
 use Rattle.pool.specs.Tree.{Name, Expr, occurs}
 use Rattle.pool.specs.Unfold.{nameAt}
-use Rattle.names.specs.Docs.{Parenable, under, tile}
-use Rattle.names.specs.Tiles.{endTile, putTile}
-use Rattle.pretty_printer.specs.declared.stack.Stack.{Stack}
-use Rattle.pretty_printer.specs.Runs.{leading, following, runs}
-use Rattle.pretty_printer.specs.Binders.{Binder, sameGroup, binderName, closing, opening, groupDoc, telescope}
-use Rattle.pretty_printer.specs.Rename.{rename}
-use Rattle.pretty_printer.specs.Scopes.{entry, Linked, placeIn, scoped, Chained}
-use Rattle.pretty_printer.specs.Steps.{firstBinder, isBinder, inRun, runLength, groupLength, dropChain, chainLength, nameDocs, mkBinder}
-use Rattle.pretty_printer.specs.Puts.{endGroup, putColon, openGroup, closeGroup}
+use Rattle.pieces.specs.Docs.{Parenable, under, tile}
+use Rattle.pieces.specs.Tiles.{endTile, putTile}
+use Rattle.binders.specs.declared.stack.Stack.{Stack}
+use Rattle.binders.specs.Runs.{leading, following, runs}
+use Rattle.binders.specs.Binders.{Binder, sameGroup, binderName, closing, opening, groupDoc, telescope}
+use Rattle.binders.specs.Rename.{rename}
+use Rattle.binders.specs.Scopes.{entry, Linked, placeIn, scoped, Chained}
+use Rattle.binders.specs.Steps.{firstBinder, groupLength, dropChain, chainLength, nameDocs, mkBinder}
+use Rattle.binders.specs.Puts.{endGroup, putColon, openGroup, closeGroup}
 use Rattle.pretty_printer.specs.Parts.{printed, inScope, groupsPart}
-use Rattle.pretty_printer.proofs.RunLaws.{runs-are-leading, runs-of-none}
-use Rattle.pretty_printer.proofs.ScopeLaws.{chain-length, place-out}
-use Rattle.pretty_printer.proofs.ChainLaws.{leading-takes, following-drops, group-length, firstOn}
+use Rattle.binders.proofs.RunLaws.{runs-are-leading, runs-of-none}
+use Rattle.binders.proofs.ScopeLaws.{chain-length, place-out}
+use Rattle.pretty_printer.proofs.ChainLaws.{leading-takes, following-drops, group-length}
 use Rattle.pretty_printer.proofs.EmitLaws.{telescope-puts, group-puts}
-use Rattle.pretty_printer.proofs.ViewLaws.{first-made, length-made, scoped-made, drop-made, run-made, chained-parts}
-use Rattle.pretty_printer.proofs.DropLaws.{Later, later-some, names-taken, group-within}
-use Rattle.pretty_printer.proofs.RunningLaws.{drop-nothing}
+use Rattle.binders.proofs.ViewLaws.{first-made, scoped-made, drop-made, chained-parts}
+use Rattle.binders.proofs.DropLaws.{Later, later-some, names-taken, group-within}
+use Rattle.binders.proofs.RunningLaws.{drop-nothing}
+use Rattle.binders.specs.Options.{PpOptions}
 
 -- ---- lists: a leading run within the first n
 
@@ -56,15 +57,15 @@ unfolding putTile
 next-tile d ds st = refl
 
 -- none has no groups
-pub no-groups : (indent : ℕ) (p : Pool) (k : Stack) (h m : ℕ) (e : Expr) (st : State) → groupsPart indent p k false h m 0 e st ≡ st
+pub no-groups : (opts : PpOptions) (p : Pool) (k : Stack) (h m : ℕ) (e : Expr) (st : State) → groupsPart opts p k false h m 0 e st ≡ st
 unfolding groupsPart putTile
-no-groups indent p k h m e st = rw (runs-of-none sameGroup)
+no-groups opts p k h m e st = rw (runs-of-none sameGroup)
 
 -- a chain's first binder among n + 1: its group, of g + 1 binders, and what is left of them after it
-module _ (indent : ℕ) (p : Pool) (k : Stack) (linked : Linked k) (i : Bool) (q : ℕ) (a : Name) (s : ℕ) (t b : Expr) (h m n : ℕ)
+module _ (opts : PpOptions) (p : Pool) (k : Stack) (linked : Linked k) (i : Bool) (q : ℕ) (a : Name) (s : ℕ) (t b : Expr) (h m n : ℕ)
     (chained : Chained p k h m (mkBinder i q a s t b)) (within : h ≤ k .count) (few : suc n ≤ chainLength (mkBinder i q a s t b)) where
   abbrev pp : Expr → Parenable
-  pp = printed indent p k
+  pp = printed opts p k
 
   abbrev e : Expr
   e = mkBinder i q a s t b
@@ -110,41 +111,42 @@ module _ (indent : ℕ) (p : Pool) (k : Stack) (linked : Linked k) (i : Bool) (q
 
   -- what a group puts between its brackets
   abbrev pub groupInside : State → State
-  groupInside st = emit (under 1 (inScope indent p k h t)) (putColon (emit (tile (nameDocs (suc g) e)) st))
+  groupInside st = emit (under 1 (inScope opts p k h t)) (putColon (emit (tile (nameDocs (suc g) e)) st))
 
-  group-emits : (st : State) → emit (groupDoc indent pp (x ∷ take g xs)) st ≡ endGroup indent (closing s) (groupInside (emit (opening s) st))
+  group-emits : (st : State) → emit (groupDoc opts pp (x ∷ take g xs)) st ≡ endGroup (opts .indent) (closing s) (groupInside (emit (opening s) st))
   unfolding inScope
   group-emits st =
       let names : map binderName (x ∷ take g xs) ≡ nameDocs (suc g) e =
       ap (λ (l : List Binder). map binderName (take (suc g) l)) (sym (scoped-made i q a s t b k h m)) ∙ names-taken k (suc g) h m e (omega (arith, small, few)) in
-      group-puts indent pp x (take g xs) st ∙ rw names
+      group-puts opts pp x (take g xs) st ∙ rw names
 
   -- the first group, and those after it
   pub groups-on : (first : Bool) (st : State) →
-      groupsPart indent p k first h m (suc n) e st
-      ≡ groupsPart indent p k false (m + suc g) (m + suc g) (n - g) (dropChain (suc g) e) (closeGroup first indent s (groupInside (openGroup first s st)))
+      groupsPart opts p k first h m (suc n) e st
+      ≡ groupsPart opts p k false (m + suc g) (m + suc g) (n - g) (dropChain (suc g) e) (closeGroup first (opts .indent) s (groupInside (openGroup first s st)))
   unfolding groupsPart closeGroup openGroup
   groups-on true st =
-      ap (λ (l : List Binder). emit (telescope indent pp l) st) taken-is
-      ∙ telescope-puts indent pp x (take n xs) st
-      ∙ ap₂ (λ (l u : List Binder). putTile (map (groupDoc indent pp) (runs sameGroup l)) (emit (groupDoc indent pp (x ∷ u)) st)) rest-is group-is
-      ∙ ap (putTile (map (groupDoc indent pp) (runs sameGroup (take (n - g) (scoped k (m + suc g) (m + suc g) (dropChain (suc g) e)))))) (group-emits st)
+      ap (λ (l : List Binder). emit (telescope opts pp l) st) taken-is
+      ∙ telescope-puts opts pp x (take n xs) st
+      ∙ ap₂ (λ (l u : List Binder). putTile (map (groupDoc opts pp) (runs sameGroup l)) (emit (groupDoc opts pp (x ∷ u)) st)) rest-is group-is
+      ∙ ap (putTile (map (groupDoc opts pp) (runs sameGroup (take (n - g) (scoped k (m + suc g) (m + suc g) (dropChain (suc g) e)))))) (group-emits st)
   groups-on false st =
-      ap (λ (l : List Binder). putTile (map (groupDoc indent pp) (runs sameGroup l)) st) taken-is
-      ∙ ap (λ (l : List (List Binder)). putTile (map (groupDoc indent pp) l) st) (runs-are-leading sameGroup x (take n xs))
-      ∙ next-tile (groupDoc indent pp (x ∷ leading (sameGroup x) (take n xs))) (map (groupDoc indent pp) (runs sameGroup (following (sameGroup x) (take n xs)))) st
-      ∙ ap₂ (λ (l u : List Binder). putTile (map (groupDoc indent pp) (runs sameGroup l)) (endTile (emit (groupDoc indent pp (x ∷ u)) (putBreak 1 st)))) rest-is group-is
-      ∙ ap (λ (v : State). putTile (map (groupDoc indent pp) (runs sameGroup (take (n - g) (scoped k (m + suc g) (m + suc g) (dropChain (suc g) e))))) (endTile v)) (group-emits (putBreak 1 st))
+      ap (λ (l : List Binder). putTile (map (groupDoc opts pp) (runs sameGroup l)) st) taken-is
+      ∙ ap (λ (l : List (List Binder)). putTile (map (groupDoc opts pp) l) st) (runs-are-leading sameGroup x (take n xs))
+      ∙ next-tile (groupDoc opts pp (x ∷ leading (sameGroup x) (take n xs))) (map (groupDoc opts pp) (runs sameGroup (following (sameGroup x) (take n xs)))) st
+      ∙ ap₂ (λ (l u : List Binder). putTile (map (groupDoc opts pp) (runs sameGroup l)) (endTile (emit (groupDoc opts pp (x ∷ u)) (putBreak 1 st)))) rest-is group-is
+      ∙ ap (λ (v : State). putTile (map (groupDoc opts pp) (runs sameGroup (take (n - g) (scoped k (m + suc g) (m + suc g) (dropChain (suc g) e))))) (endTile v)) (group-emits (putBreak 1 st))
 
 -- the same, at a row's tree, with the code's own numbers
-pub groups-at : (indent : ℕ) (p : Pool) (k : Stack) (linked : Linked k) (i : Bool) (q : ℕ) (a : Name) (s : ℕ) (t b : Expr) (h m n count next left : ℕ) (first : Bool) (e₀ e₁ : Expr) (st : State) →
+pub groups-at : (opts : PpOptions) (p : Pool) (k : Stack) (linked : Linked k) (i : Bool) (q : ℕ) (a : Name) (s : ℕ) (t b : Expr)
+    (h m n count next left : ℕ) (first : Bool) (e₀ e₁ : Expr) (st : State) →
     e₀ ≡ mkBinder i q a s t b → Chained p k h m e₀ → h ≤ k .count → 0 < n → n ≤ chainLength e₀ →
     count ≡ suc (groupLength (n - 1) (firstBinder e₀ .style) (firstBinder e₀ .type) 1 (dropChain 1 e₀)) → e₁ ≡ dropChain count e₀ →
     next ≡ m + count → left ≡ n - count →
-    groupsPart indent p k false next next left e₁ (closeGroup first indent s (emit (under 1 (inScope indent p k h t)) (putColon (emit (tile (nameDocs count e₀)) (openGroup first s st)))))
-    ≡ groupsPart indent p k first h m n e₀ st
-groups-at indent p k linked i q a s t b h m zero count next left first e₀ e₁ st made chained within some few counts rest nexts lefts = absurd (omega arith)
-groups-at indent p k linked i q a s t b h m (suc n) count next left first e₀ e₁ st made chained within some few counts rest nexts lefts =
+    groupsPart opts p k false next next left e₁ (closeGroup first (opts .indent) s (emit (under 1 (inScope opts p k h t)) (putColon (emit (tile (nameDocs count e₀)) (openGroup first s st)))))
+    ≡ groupsPart opts p k first h m n e₀ st
+groups-at opts p k linked i q a s t b h m zero count next left first e₀ e₁ st made chained within some few counts rest nexts lefts = absurd (omega arith)
+groups-at opts p k linked i q a s t b h m (suc n) count next left first e₀ e₁ st made chained within some few counts rest nexts lefts =
     let one : suc n - 1 ≡ n = omega arith in
     let f : firstBinder e₀ ≡ record { isPi = i; used = occurs 0 b; name = a; style = s; type = t; place = q } = ap firstBinder made ∙ first-made i q a s t b in
     let d : dropChain 1 e₀ ≡ b = ap (dropChain 1) made ∙ drop-made i q a s t b 0 ∙ drop-nothing b in
@@ -152,4 +154,4 @@ groups-at indent p k linked i q a s t b h m (suc n) count next left first e₀ e
     let z : suc n - suc (groupLength n s t 1 b) ≡ n - groupLength n s t 1 b = omega arith in
     let ch : Chained p k h m (mkBinder i q a s t b) = rw made at chained in
     let fe : suc n ≤ chainLength (mkBinder i q a s t b) = rw made at few in
-    rw (rest, nexts, lefts, c, made, z) (sym (groups-on indent p k linked i q a s t b h m n ch within fe first st))
+    rw (rest, nexts, lefts, c, made, z) (sym (groups-on opts p k linked i q a s t b h m n ch within fe first st))

@@ -3,17 +3,14 @@ use Prim.Native.Nat.{ℕ, zero, suc, _+_}
 use mathlib.Core.List.{List, [], _∷_, map}
 use lib.ListN.{length}
 use Rattle.document.specs.Walk.{Marked, textᵐ, names}
-use Rattle.pool.specs.Tree.{Name, Level, Expr, var, sort, const, app, pi, lam, letᵉ, proj, nat, str, depth}
-use Rattle.names.specs.Docs.{_⊹_, quoted, line, G, NG, Parenable, withInner, under, tile, number}
+use Rattle.pool.specs.Tree.{Name, Expr, var, sort, const, app, pi, lam, letᵉ, proj, nat, str, depth}
+use Rattle.pieces.specs.Docs.{_⊹_, quoted, line, G, NG, Parenable, withInner, under, tile, number}
 use Rattle.names.specs.Names.{nameDoc}
-use Rattle.names.specs.Levels.{sortDoc}
-use Rattle.pretty_printer.specs.Binders.{Binder, binders, chainBody, pushed, inForce, bindersPar}
-
--- "Variable: the name at its place, else its index in digits."; the names in force, innermost first
-unfoldable pub varDoc : List Name → ℕ → ℕ → Marked
-varDoc [] i index = number index
-varDoc (n ∷ ns) zero index = nameDoc n
-varDoc (n ∷ ns) (suc i) index = varDoc ns i index
+use Rattle.levels.specs.Levels.{sortDoc}
+use Rattle.binders.specs.Variables.{varDoc}
+use Rattle.binders.specs.Binders.{Binder, binders, chainBody, pushed, inForce, bindersPar}
+use Rattle.binders.specs.Options.{PpOptions}
+use Rattle.binders.specs.Shown.{shown, NamesInForce}
 
 -- an application's head, and its arguments before others
 unfoldable pub appHead : Expr → Expr
@@ -40,16 +37,16 @@ appArgs (proj n i e) others = others
 appArgs (nat s) others = others
 appArgs (str s) others = others
 
-module _ (indent : ℕ) where
+module _ (opts : PpOptions) where
   -- "Application: tile of G(head under 1,023) and G(each argument under 1,024), all N(G), inner 1,023."
   unfoldable pub appPar : (Expr → Parenable) → Expr → List Expr → Parenable
   appPar pp head args =
-      withInner 1023 (NG indent (tile (G (under 1023 (pp head)) ∷ map (λ a. G (under 1024 (pp a))) args)))
+      withInner 1023 (NG (opts .indent) (tile (G (under 1023 (pp head)) ∷ map (λ a. G (under 1024 (pp a))) args)))
 
   -- a chain, whose `bs` are its binders: their names are in force from before its first row
   unfoldable pub chainPar : (Expr → Parenable) → List Binder → ℕ → Expr → Parenable
   chainPar pp bs outside body =
-      let p : Parenable = bindersPar indent pp bs (pp body) in
+      let p : Parenable = bindersPar opts pp bs (pp body) in
       withInner (p .inner) (inForce bs outside (p .doc))
 
   -- "Let: N(G("let"+" "+G(name+" "+":"+|+G(type under 1))+" "+":="+|+G(value)+";"))+|+body, all G, inner 0."; its name is in
@@ -58,7 +55,7 @@ module _ (indent : ℕ) where
   letPar place inForce name type value body =
       withInner 0
       (G
-      (NG indent
+      (NG (opts .indent)
       (quoted "let"
       ⊹ quoted " "
       ⊹ G (nameDoc name ⊹ quoted " " ⊹ quoted ":" ⊹ line ⊹ G (under 1 type))
@@ -71,7 +68,7 @@ module _ (indent : ℕ) where
       ⊹ names place inForce (under 0 body)))
 
   -- an expression under the names in force; the bound is at least its depth
-  unfoldable pub exprTo : ℕ → List Name → Expr → Parenable
+  unfoldable pub exprTo : ℕ → NamesInForce → Expr → Parenable
   exprTo zero ns e = withInner 1024 (quoted "")
   exprTo (suc k) ns (var i) = withInner 1024 (varDoc ns i i)
   exprTo (suc k) ns (sort l) = withInner 1024 (sortDoc l)
@@ -82,13 +79,13 @@ module _ (indent : ℕ) where
   exprTo (suc k) ns (lam p n s t b) =
       let bs : List Binder = binders (lam p n s t b) in chainPar (exprTo k (pushed bs ns)) bs (length ns) (chainBody b)
   exprTo (suc k) ns (letᵉ p n t v b d) =
-      letPar p (suc (length ns)) n (exprTo k ns t) (exprTo k ns v) (exprTo k (n ∷ ns) b)
+      letPar p (suc (length ns)) n (exprTo k ns t) (exprTo k ns v) (exprTo k (shown n ∷ ns) b)
   exprTo (suc k) ns (proj n i e) =
       withInner 1024 (G (under 1024 (exprTo k ns e)) ⊹ quoted "." ⊹ number (i + 1))
   exprTo (suc k) ns (nat s) = withInner 1024 (textᵐ s)
   exprTo (suc k) ns (str s) = withInner 1024 (quoted "\"" ⊹ textᵐ s ⊹ quoted "\"")
 
-  unfoldable pub exprPar : List Name → Expr → Parenable
+  unfoldable pub exprPar : NamesInForce → Expr → Parenable
   exprPar ns e = exprTo (depth e) ns e
 
   -- "Every listing is one outer G."

@@ -1,10 +1,4 @@
-pub mod Runs
-pub mod Binders
+-- what a reader must believe, in 01's order
 pub mod Exprs
-pub mod Declars
-pub mod Rename
-pub mod Scopes
-pub mod Steps
-pub mod Puts
-pub mod Asked
+-- what the contracts and the proofs speak of
 pub mod Parts

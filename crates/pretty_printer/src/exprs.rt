@@ -1,25 +1,26 @@
 // Expressions: one call cycle. Each call goes to a lower row, or on the same row from a tail to an expression to a chain to its parts.
-use crate::binders::is_arrow;
-use crate::binders::level_of;
-use crate::binders::part_end;
-use crate::chain::chain_length;
-use crate::chain::is_binder;
-use crate::chain::push_chain;
-use crate::group::group_end;
-use crate::group::pp_names;
-use crate::leaves::pp_leaf;
-use crate::puts::close_group;
-use crate::puts::end_let;
-use crate::puts::end_proj;
-use crate::puts::end_run;
-use crate::puts::open_group;
-use crate::puts::put_arrow;
-use crate::puts::put_assign;
-use crate::puts::put_colon;
-use crate::puts::start_let;
-use crate::puts::start_run;
-use crate::stack::Stack;
-use crate::vars::pp_bvar;
+use binders::chain::chain_length;
+use binders::chain::is_binder;
+use binders::chain::push_chain;
+use binders::group::group_end;
+use binders::group::pp_names;
+use binders::leaves::pp_leaf;
+use binders::printer::Printer;
+use binders::puts::close_group;
+use binders::puts::end_let;
+use binders::puts::end_proj;
+use binders::puts::end_run;
+use binders::puts::open_group;
+use binders::puts::put_arrow;
+use binders::puts::put_assign;
+use binders::puts::put_colon;
+use binders::puts::start_let;
+use binders::puts::start_run;
+use binders::runs::is_arrow;
+use binders::runs::level_of;
+use binders::runs::part_end;
+use binders::stack::Stack;
+use binders::vars::pp_bvar;
 use document::sink::Sink;
 use document::sink::put_break;
 use document::sink::put_group;
@@ -27,31 +28,46 @@ use document::sink::put_join;
 use document::sink::put_names;
 use document::sink::put_nest;
 use names::names::pp_name_safe;
-use names::parens::close_paren;
-use names::parens::open_paren;
-use names::words::end_tile;
-use pool::tables::Tables;
-use pool::tables::expr_word;
+use pieces::parens::close_paren;
+use pieces::parens::open_paren;
+use pieces::words::end_tile;
+use pool::fields::app_argument;
+use pool::fields::app_function;
+use pool::fields::binder_style;
+use pool::fields::binder_type;
+use pool::fields::expr_kind;
+use pool::fields::let_body;
+use pool::fields::let_name;
+use pool::fields::let_type;
+use pool::fields::let_value;
+use pool::fields::proj_index;
+use pool::fields::proj_structure;
+use pool::fields::var_index;
+use pool::kinds::EXPR_APP;
+use pool::kinds::EXPR_LET;
+use pool::kinds::EXPR_PI;
+use pool::kinds::EXPR_PROJ;
+use pool::kinds::EXPR_VAR;
 ghost use mathlib.Core.Path.{_≡_};
-ghost use mathlib.Core.Bool.{Bool, true, false};
+ghost use mathlib.Core.Bool.{true};
 ghost use Prim.Native.Nat.{_+_, _<_, _≤_};
-ghost use Rattle.pool.specs.Tables.{E, exprWord};
-ghost use Rattle.pool.specs.Areas.{over};
+ghost use Rattle.pool.specs.Tables.{exprWord};
+ghost use Rattle.pool.specs.Areas.{lent, given};
 ghost use Rattle.pool.specs.Unfold.{nameAt, exprAt};
-ghost use Rattle.document.specs.Sink.{State, emit};
-ghost use Rattle.document.specs.Sink.State.{state};
-ghost use Rattle.names.specs.Docs.{under};
-ghost use Rattle.pretty_printer.specs.Asked.{Asked, InChain};
-ghost use Rattle.pretty_printer.specs.Binders.{isArrow};
-ghost use Rattle.pretty_printer.specs.Steps.{firstBinder, binderKind, chainLength, partLength};
-ghost use Rattle.pretty_printer.specs.Parts.{inScope, appPart, chainPart, runPart, groupsPart, letHead, letBody};
+ghost use Rattle.document.specs.Sink.{Leaves, emit};
+ghost use Rattle.pieces.specs.Docs.{under};
+ghost use Rattle.binders.specs.Options.{optionsOf};
+ghost use Rattle.binders.specs.Asked.{Asked, InChain};
+ghost use Rattle.binders.specs.Binders.{isArrow};
+ghost use Rattle.binders.specs.Steps.{firstBinder, binderKind, chainLength, partLength};
+ghost use Rattle.pretty_printer.specs.Parts.{rowIn, appPart, chainPart, runPart, groupsPart, letHead, letBody};
 
 // The expression at row r, in a scope of the stack, under a level.
 pub fn pp_expr(
     bytes: &[u8],
     names: &[u32],
     words: &[u32],
-    t: Tables,
+    p: Printer,
     rows: &mut [u32],
     text: &mut [u8],
     s: Sink,
@@ -59,79 +75,30 @@ pub fn pp_expr(
     scope: usize,
     r: usize,
     outer: usize,
-    indent: u32,
 ) -> Sink
-    requires { ⌜ (Asked (now bytes) (now names) (now words) t k scope r) × (outer ≤ 1024) ⌝ }
-    ensures { λ v. ⌜ state (now (rows .exit)) (now (text .exit)) v ≡ emit (under outer (inScope indent (over (now (bytes .entry)) (now (names .entry)) (now (words .entry))) k scope (exprAt (over (now (bytes .entry)) (now (names .entry)) (now (words .entry))) r))) (state (now (rows .entry)) (now (text .entry)) s) ⌝ }
+    requires { ⌜ (Asked (now bytes) (now names) (now words) (p .tables) k scope r) × (outer ≤ 1024) ⌝ }
+    ensures { λ v. ⌜ Leaves rows text s v (emit (under outer (rowIn (optionsOf p) (lent bytes names words) k scope r))) ⌝ }
 {
     if s.stop != 0 {
         return s;
     }
-    let kind = expr_word(words, t, r, 0);
-    if kind == 0 {
-        return pp_bvar(
-            bytes,
-            names,
-            words,
-            t,
-            rows,
-            text,
-            s,
-            k,
-            scope,
-            expr_word(words, t, r, 1),
-        );
+    let t = p.tables;
+    let kind = expr_kind(words, t, r);
+    if kind == EXPR_VAR {
+        let index = var_index(words, t, r);
+        return pp_bvar(bytes, names, words, t, rows, text, s, k, scope, index);
     }
-    if kind == 3 {
-        return pp_app(
-            bytes,
-            names,
-            words,
-            t,
-            rows,
-            text,
-            s,
-            k,
-            scope,
-            r,
-            outer,
-            indent,
-        );
+    if kind == EXPR_APP {
+        return pp_app(bytes, names, words, p, rows, text, s, k, scope, r, outer);
     }
-    if kind == 6 {
-        return pp_let(
-            bytes,
-            names,
-            words,
-            t,
-            rows,
-            text,
-            s,
-            k,
-            scope,
-            r,
-            outer,
-            indent,
-        );
+    if kind == EXPR_LET {
+        return pp_let(bytes, names, words, p, rows, text, s, k, scope, r, outer);
     }
-    if kind == 7 {
-        return pp_proj(bytes, names, words, t, rows, text, s, k, scope, r, indent);
+    if kind == EXPR_PROJ {
+        return pp_proj(bytes, names, words, p, rows, text, s, k, scope, r);
     }
     if is_binder(kind) {
-        return pp_chain(
-            bytes,
-            names,
-            words,
-            t,
-            rows,
-            text,
-            s,
-            k,
-            scope,
-            r,
-            outer,
-            indent,
-        );
+        return pp_chain(bytes, names, words, p, rows, text, s, k, scope, r, outer);
     }
     pp_leaf(bytes, names, words, t, rows, text, s, r)
 }
@@ -141,7 +108,7 @@ fn pp_app(
     bytes: &[u8],
     names: &[u32],
     words: &[u32],
-    t: Tables,
+    p: Printer,
     rows: &mut [u32],
     text: &mut [u8],
     s: Sink,
@@ -149,17 +116,17 @@ fn pp_app(
     scope: usize,
     r: usize,
     outer: usize,
-    indent: u32,
 ) -> Sink
-    requires { ⌜ (Asked (now bytes) (now names) (now words) t k scope r) × (outer ≤ 1024) × (exprWord (now words) r 0 ≡ 3) ⌝ }
-    ensures { λ v. ⌜ state (now (rows .exit)) (now (text .exit)) v ≡ emit (under outer (inScope indent (over (now (bytes .entry)) (now (names .entry)) (now (words .entry))) k scope (exprAt (over (now (bytes .entry)) (now (names .entry)) (now (words .entry))) r))) (state (now (rows .entry)) (now (text .entry)) s) ⌝ }
+    requires { ⌜ (Asked (now bytes) (now names) (now words) (p .tables) k scope r) × (outer ≤ 1024)
+        × (exprWord (now words) r 0 ≡ 3) ⌝ }
+    ensures { λ v. ⌜ Leaves rows text s v (emit (under outer (rowIn (optionsOf p) (lent bytes names words) k scope r))) ⌝ }
 {
     let wrapped = outer > 1023;
-    let a = open_paren(rows, text, s, wrapped);
-    let b = pp_spine(bytes, names, words, t, rows, text, a, k, scope, r, indent);
-    let c = put_group(rows, text, b);
-    let d = put_nest(rows, text, c, indent);
-    close_paren(rows, text, d, wrapped)
+    let s = open_paren(rows, text, s, wrapped);
+    let s = pp_spine(bytes, names, words, p, rows, text, s, k, scope, r);
+    let s = put_group(rows, text, s);
+    let s = put_nest(rows, text, s, p.indent);
+    close_paren(rows, text, s, wrapped)
 }
 
 // Its head and its arguments, tiled.
@@ -167,51 +134,41 @@ fn pp_spine(
     bytes: &[u8],
     names: &[u32],
     words: &[u32],
-    t: Tables,
+    p: Printer,
     rows: &mut [u32],
     text: &mut [u8],
     s: Sink,
     k: Stack,
     scope: usize,
     r: usize,
-    indent: u32,
 ) -> Sink
-    requires { ⌜ (Asked (now bytes) (now names) (now words) t k scope r) × (exprWord (now words) r 0 ≡ 3) ⌝ }
-    ensures { λ v. ⌜ state (now (rows .exit)) (now (text .exit)) v ≡ emit (appPart indent (over (now (bytes .entry)) (now (names .entry)) (now (words .entry))) k scope (exprAt (over (now (bytes .entry)) (now (names .entry)) (now (words .entry))) r)) (state (now (rows .entry)) (now (text .entry)) s) ⌝ }
+    requires { ⌜ (Asked (now bytes) (now names) (now words) (p .tables) k scope r) × (exprWord (now words) r 0 ≡ 3) ⌝ }
+    ensures { λ v. ⌜ Leaves rows text s v (emit (appPart (optionsOf p) (lent bytes names words) k scope
+        (exprAt (lent bytes names words) r))) ⌝ }
 {
     if s.stop != 0 {
         return s;
     }
-    let a = pp_head(
+    let t = p.tables;
+    let function = app_function(words, t, r);
+    let s = pp_head(bytes, names, words, p, rows, text, s, k, scope, function);
+    let s = put_break(rows, text, s, 1);
+    let argument = app_argument(words, t, r);
+    let s = pp_expr(
         bytes,
         names,
         words,
-        t,
+        p,
         rows,
         text,
         s,
         k,
         scope,
-        expr_word(words, t, r, 1),
-        indent,
-    );
-    let b = put_break(rows, text, a, 1);
-    let c = pp_expr(
-        bytes,
-        names,
-        words,
-        t,
-        rows,
-        text,
-        b,
-        k,
-        scope,
-        expr_word(words, t, r, 2),
+        argument,
         1024,
-        indent,
     );
-    let d = put_group(rows, text, c);
-    end_tile(rows, text, d)
+    let s = put_group(rows, text, s);
+    end_tile(rows, text, s)
 }
 
 // What an argument follows: the head, or the head and other arguments.
@@ -219,36 +176,23 @@ fn pp_head(
     bytes: &[u8],
     names: &[u32],
     words: &[u32],
-    t: Tables,
+    p: Printer,
     rows: &mut [u32],
     text: &mut [u8],
     s: Sink,
     k: Stack,
     scope: usize,
     r: usize,
-    indent: u32,
 ) -> Sink
-    requires { ⌜ (Asked (now bytes) (now names) (now words) t k scope r) ⌝ }
-    ensures { λ v. ⌜ state (now (rows .exit)) (now (text .exit)) v ≡ emit (appPart indent (over (now (bytes .entry)) (now (names .entry)) (now (words .entry))) k scope (exprAt (over (now (bytes .entry)) (now (names .entry)) (now (words .entry))) r)) (state (now (rows .entry)) (now (text .entry)) s) ⌝ }
+    requires { ⌜ (Asked (now bytes) (now names) (now words) (p .tables) k scope r) ⌝ }
+    ensures { λ v. ⌜ Leaves rows text s v (emit (appPart (optionsOf p) (lent bytes names words) k scope
+        (exprAt (lent bytes names words) r))) ⌝ }
 {
-    if expr_word(words, t, r, 0) == 3 {
-        return pp_spine(bytes, names, words, t, rows, text, s, k, scope, r, indent);
+    if expr_kind(words, p.tables, r) == EXPR_APP {
+        return pp_spine(bytes, names, words, p, rows, text, s, k, scope, r);
     }
-    let a = pp_expr(
-        bytes,
-        names,
-        words,
-        t,
-        rows,
-        text,
-        s,
-        k,
-        scope,
-        r,
-        1023,
-        indent,
-    );
-    put_group(rows, text, a)
+    let s = pp_expr(bytes, names, words, p, rows, text, s, k, scope, r, 1023);
+    put_group(rows, text, s)
 }
 
 // A projection, which is never in parentheses.
@@ -256,33 +200,33 @@ fn pp_proj(
     bytes: &[u8],
     names: &[u32],
     words: &[u32],
-    t: Tables,
+    p: Printer,
     rows: &mut [u32],
     text: &mut [u8],
     s: Sink,
     k: Stack,
     scope: usize,
     r: usize,
-    indent: u32,
 ) -> Sink
-    requires { ⌜ (Asked (now bytes) (now names) (now words) t k scope r) × (exprWord (now words) r 0 ≡ 7) ⌝ }
-    ensures { λ v. ⌜ state (now (rows .exit)) (now (text .exit)) v ≡ emit (under 1024 (inScope indent (over (now (bytes .entry)) (now (names .entry)) (now (words .entry))) k scope (exprAt (over (now (bytes .entry)) (now (names .entry)) (now (words .entry))) r))) (state (now (rows .entry)) (now (text .entry)) s) ⌝ }
+    requires { ⌜ (Asked (now bytes) (now names) (now words) (p .tables) k scope r) × (exprWord (now words) r 0 ≡ 7) ⌝ }
+    ensures { λ v. ⌜ Leaves rows text s v (emit (under 1024 (rowIn (optionsOf p) (lent bytes names words) k scope r))) ⌝ }
 {
-    let a = pp_expr(
+    let t = p.tables;
+    let structure = proj_structure(words, t, r);
+    let s = pp_expr(
         bytes,
         names,
         words,
-        t,
+        p,
         rows,
         text,
         s,
         k,
         scope,
-        expr_word(words, t, r, 3),
+        structure,
         1024,
-        indent,
     );
-    end_proj(rows, text, a, expr_word(words, t, r, 2))
+    end_proj(rows, text, s, proj_index(words, t, r))
 }
 
 // A let.
@@ -290,7 +234,7 @@ fn pp_let(
     bytes: &[u8],
     names: &[u32],
     words: &[u32],
-    t: Tables,
+    p: Printer,
     rows: &mut [u32],
     text: &mut [u8],
     s: Sink,
@@ -298,18 +242,18 @@ fn pp_let(
     scope: usize,
     r: usize,
     outer: usize,
-    indent: u32,
 ) -> Sink
-    requires { ⌜ (Asked (now bytes) (now names) (now words) t k scope r) × (outer ≤ 1024) × (exprWord (now words) r 0 ≡ 6) ⌝ }
-    ensures { λ v. ⌜ state (now (rows .exit)) (now (text .exit)) v ≡ emit (under outer (inScope indent (over (now (bytes .entry)) (now (names .entry)) (now (words .entry))) k scope (exprAt (over (now (bytes .entry)) (now (names .entry)) (now (words .entry))) r))) (state (now (rows .entry)) (now (text .entry)) s) ⌝ }
+    requires { ⌜ (Asked (now bytes) (now names) (now words) (p .tables) k scope r) × (outer ≤ 1024)
+        × (exprWord (now words) r 0 ≡ 6) ⌝ }
+    ensures { λ v. ⌜ Leaves rows text s v (emit (under outer (rowIn (optionsOf p) (lent bytes names words) k scope r))) ⌝ }
 {
     let wrapped = outer > 0;
-    let a = open_paren(rows, text, s, wrapped);
-    let b = pp_let_head(bytes, names, words, t, rows, text, a, k, scope, r, indent);
-    let c = pp_let_body(bytes, names, words, t, rows, text, b, k, scope, r, indent);
-    let d = put_join(rows, text, c);
-    let e = put_group(rows, text, d);
-    close_paren(rows, text, e, wrapped)
+    let s = open_paren(rows, text, s, wrapped);
+    let s = pp_let_head(bytes, names, words, p, rows, text, s, k, scope, r);
+    let s = pp_let_body(bytes, names, words, p, rows, text, s, k, scope, r);
+    let s = put_join(rows, text, s);
+    let s = put_group(rows, text, s);
+    close_paren(rows, text, s, wrapped)
 }
 
 // Its name, type and value, up to the break.
@@ -317,60 +261,31 @@ fn pp_let_head(
     bytes: &[u8],
     names: &[u32],
     words: &[u32],
-    t: Tables,
+    p: Printer,
     rows: &mut [u32],
     text: &mut [u8],
     s: Sink,
     k: Stack,
     scope: usize,
     r: usize,
-    indent: u32,
 ) -> Sink
-    requires { ⌜ (Asked (now bytes) (now names) (now words) t k scope r) × (exprWord (now words) r 0 ≡ 6) ⌝ }
-    ensures { λ v. ⌜ state (now (rows .exit)) (now (text .exit)) v ≡ letHead indent (over (now (bytes .entry)) (now (names .entry)) (now (words .entry))) k scope (nameAt (over (now (bytes .entry)) (now (names .entry)) (now (words .entry))) (exprWord (now (words .entry)) r 1)) (exprAt (over (now (bytes .entry)) (now (names .entry)) (now (words .entry))) (exprWord (now (words .entry)) r 2)) (exprAt (over (now (bytes .entry)) (now (names .entry)) (now (words .entry))) (exprWord (now (words .entry)) r 3)) (state (now (rows .entry)) (now (text .entry)) s) ⌝ }
+    requires { ⌜ (Asked (now bytes) (now names) (now words) (p .tables) k scope r) × (exprWord (now words) r 0 ≡ 6) ⌝ }
+    ensures { λ v. ⌜ Leaves rows text s v (letHead (optionsOf p) (lent bytes names words) k scope
+        (nameAt (lent bytes names words) (exprWord (now (words .entry)) r 1))
+        (exprAt (lent bytes names words) (exprWord (now (words .entry)) r 2))
+        (exprAt (lent bytes names words) (exprWord (now (words .entry)) r 3))) ⌝ }
 {
-    let a = start_let(rows, text, s);
-    let b = pp_name_safe(
-        bytes,
-        names,
-        words,
-        t,
-        rows,
-        text,
-        a,
-        expr_word(words, t, r, 1),
-    );
-    let c = put_colon(rows, text, b);
-    let d = pp_expr(
-        bytes,
-        names,
-        words,
-        t,
-        rows,
-        text,
-        c,
-        k,
-        scope,
-        expr_word(words, t, r, 2),
-        1,
-        indent,
-    );
-    let e = put_assign(rows, text, d);
-    let f = pp_expr(
-        bytes,
-        names,
-        words,
-        t,
-        rows,
-        text,
-        e,
-        k,
-        scope,
-        expr_word(words, t, r, 3),
-        0,
-        indent,
-    );
-    end_let(rows, text, f, indent)
+    let t = p.tables;
+    let s = start_let(rows, text, s);
+    let name = let_name(words, t, r);
+    let s = pp_name_safe(bytes, names, words, t, rows, text, s, name);
+    let s = put_colon(rows, text, s);
+    let type_row = let_type(words, t, r);
+    let s = pp_expr(bytes, names, words, p, rows, text, s, k, scope, type_row, 1);
+    let s = put_assign(rows, text, s);
+    let value = let_value(words, t, r);
+    let s = pp_expr(bytes, names, words, p, rows, text, s, k, scope, value, 0);
+    end_let(rows, text, s, p.indent)
 }
 
 // Its body, before which its name comes into force.
@@ -378,37 +293,39 @@ fn pp_let_body(
     bytes: &[u8],
     names: &[u32],
     words: &[u32],
-    t: Tables,
+    p: Printer,
     rows: &mut [u32],
     text: &mut [u8],
     s: Sink,
     k: Stack,
     scope: usize,
     r: usize,
-    indent: u32,
 ) -> Sink
-    requires { ⌜ (Asked (now bytes) (now names) (now words) t k scope r) × (exprWord (now words) r 0 ≡ 6) ⌝ }
-    ensures { λ v. ⌜ state (now (rows .exit)) (now (text .exit)) v ≡ letBody indent (over (now (bytes .entry)) (now (names .entry)) (now (words .entry))) k scope r (nameAt (over (now (bytes .entry)) (now (names .entry)) (now (words .entry))) (exprWord (now (words .entry)) r 1)) (exprAt (over (now (bytes .entry)) (now (names .entry)) (now (words .entry))) (exprWord (now (words .entry)) r 4)) (state (now (rows .entry)) (now (text .entry)) s) ⌝ }
+    requires { ⌜ (Asked (now bytes) (now names) (now words) (p .tables) k scope r) × (exprWord (now words) r 0 ≡ 6) ⌝ }
+    ensures { λ v. ⌜ Leaves rows text s v (letBody (optionsOf p) (lent bytes names words) k scope r
+        (nameAt (lent bytes names words) (exprWord (now (words .entry)) r 1))
+        (exprAt (lent bytes names words) (exprWord (now (words .entry)) r 4))) ⌝ }
 {
+    let t = p.tables;
     let count = k.count + 1;
-    let a = put_names(rows, text, s, r, count);
-    if a.stop != 0 {
-        return a;
+    let s = put_names(rows, text, s, r, count);
+    if s.stop != 0 {
+        return s;
     }
-    let l = k.push(expr_word(words, t, r, 1), scope);
+    let inside = k.push(let_name(words, t, r), scope);
+    let body = let_body(words, t, r);
     pp_expr(
         bytes,
         names,
         words,
-        t,
+        p,
         rows,
         text,
-        a,
-        l,
+        s,
+        inside,
         count,
-        expr_word(words, t, r, 4),
+        body,
         0,
-        indent,
     )
 }
 
@@ -417,7 +334,7 @@ fn pp_chain(
     bytes: &[u8],
     names: &[u32],
     words: &[u32],
-    t: Tables,
+    p: Printer,
     rows: &mut [u32],
     text: &mut [u8],
     s: Sink,
@@ -425,37 +342,37 @@ fn pp_chain(
     scope: usize,
     r: usize,
     outer: usize,
-    indent: u32,
 ) -> Sink
-    requires { ⌜ (Asked (now bytes) (now names) (now words) t k scope r) × (outer ≤ 1024) × (binderKind (exprWord (now words) r 0) ≡ true) ⌝ }
-    ensures { λ v. ⌜ state (now (rows .exit)) (now (text .exit)) v ≡ emit (under outer (inScope indent (over (now (bytes .entry)) (now (names .entry)) (now (words .entry))) k scope (exprAt (over (now (bytes .entry)) (now (names .entry)) (now (words .entry))) r))) (state (now (rows .entry)) (now (text .entry)) s) ⌝ }
+    requires { ⌜ (Asked (now bytes) (now names) (now words) (p .tables) k scope r) × (outer ≤ 1024)
+        × (binderKind (exprWord (now words) r 0) ≡ true) ⌝ }
+    ensures { λ v. ⌜ Leaves rows text s v (emit (under outer (rowIn (optionsOf p) (lent bytes names words) k scope r))) ⌝ }
 {
+    let t = p.tables;
     let arrow = is_arrow(bytes, names, words, t, r);
     let wrapped = outer > level_of(arrow);
-    let a = open_paren(rows, text, s, wrapped);
+    let s = open_paren(rows, text, s, wrapped);
     let m = k.count;
-    let n = chain_length(bytes, names, words, t, r);
-    let b = put_names(rows, text, a, r, m + n);
-    if b.stop != 0 {
-        return b;
+    let length = chain_length(bytes, names, words, t, r);
+    let s = put_names(rows, text, s, r, m + length);
+    if s.stop != 0 {
+        return s;
     }
-    let l = push_chain(bytes, names, words, t, k, scope, r);
-    let c = pp_binders(
+    let inside = push_chain(bytes, names, words, t, k, scope, r);
+    let s = pp_binders(
         bytes,
         names,
         words,
-        t,
+        p,
         rows,
         text,
-        b,
-        l,
+        s,
+        inside,
         scope,
         m,
         r,
         0,
-        indent,
     );
-    close_paren(rows, text, c, wrapped)
+    close_paren(rows, text, s, wrapped)
 }
 
 // What follows a part of a chain: more binders, or the chain's body.
@@ -463,7 +380,7 @@ pub fn pp_tail(
     bytes: &[u8],
     names: &[u32],
     words: &[u32],
-    t: Tables,
+    p: Printer,
     rows: &mut [u32],
     text: &mut [u8],
     s: Sink,
@@ -472,42 +389,15 @@ pub fn pp_tail(
     m: usize,
     r: usize,
     outer: usize,
-    indent: u32,
 ) -> Sink
-    requires { ⌜ (InChain (now bytes) (now names) (now words) t k scope m r) × (outer ≤ 1024) ⌝ }
-    ensures { λ v. ⌜ state (now (rows .exit)) (now (text .exit)) v ≡ emit (under outer (chainPart indent (over (now (bytes .entry)) (now (names .entry)) (now (words .entry))) k scope m (exprAt (over (now (bytes .entry)) (now (names .entry)) (now (words .entry))) r))) (state (now (rows .entry)) (now (text .entry)) s) ⌝ }
+    requires { ⌜ (InChain (now bytes) (now names) (now words) (p .tables) k scope m r) × (outer ≤ 1024) ⌝ }
+    ensures { λ v. ⌜ Leaves rows text s v (emit (under outer (chainPart (optionsOf p) (lent bytes names words) k scope m
+        (exprAt (lent bytes names words) r)))) ⌝ }
 {
-    if is_binder(expr_word(words, t, r, 0)) {
-        return pp_binders(
-            bytes,
-            names,
-            words,
-            t,
-            rows,
-            text,
-            s,
-            k,
-            scope,
-            m,
-            r,
-            outer,
-            indent,
-        );
+    if is_binder(expr_kind(words, p.tables, r)) {
+        return pp_binders(bytes, names, words, p, rows, text, s, k, scope, m, r, outer);
     }
-    pp_expr(
-        bytes,
-        names,
-        words,
-        t,
-        rows,
-        text,
-        s,
-        k,
-        scope,
-        r,
-        outer,
-        indent,
-    )
+    pp_expr(bytes, names, words, p, rows, text, s, k, scope, r, outer)
 }
 
 // A part of a chain: its names are on the stack from entry m on, and its first type is in a scope.
@@ -515,7 +405,7 @@ fn pp_binders(
     bytes: &[u8],
     names: &[u32],
     words: &[u32],
-    t: Tables,
+    p: Printer,
     rows: &mut [u32],
     text: &mut [u8],
     s: Sink,
@@ -524,53 +414,55 @@ fn pp_binders(
     m: usize,
     r: usize,
     outer: usize,
-    indent: u32,
 ) -> Sink
-    requires { ⌜ (InChain (now bytes) (now names) (now words) t k scope m r) × (outer ≤ 1024) × (binderKind (exprWord (now words) r 0) ≡ true) ⌝ }
-    ensures { λ v. ⌜ state (now (rows .exit)) (now (text .exit)) v ≡ emit (under outer (chainPart indent (over (now (bytes .entry)) (now (names .entry)) (now (words .entry))) k scope m (exprAt (over (now (bytes .entry)) (now (names .entry)) (now (words .entry))) r))) (state (now (rows .entry)) (now (text .entry)) s) ⌝ }
+    requires { ⌜ (InChain (now bytes) (now names) (now words) (p .tables) k scope m r) × (outer ≤ 1024)
+        × (binderKind (exprWord (now words) r 0) ≡ true) ⌝ }
+    ensures { λ v. ⌜ Leaves rows text s v (emit (under outer (chainPart (optionsOf p) (lent bytes names words) k scope m
+        (exprAt (lent bytes names words) r)))) ⌝ }
 {
     if s.stop != 0 {
         return s;
     }
+    let t = p.tables;
     let arrow = is_arrow(bytes, names, words, t, r);
     let inner = level_of(arrow);
     let wrapped = outer > inner;
     let end = part_end(bytes, names, words, t, r, arrow);
-    let a = open_paren(rows, text, s, wrapped);
-    let b = pp_run(
+    let n = end.count;
+    let s = open_paren(rows, text, s, wrapped);
+    let s = pp_run(
         bytes,
         names,
         words,
-        t,
+        p,
         rows,
         text,
-        a,
+        s,
         k,
         scope,
         m,
         r,
-        end.count,
+        n,
         arrow,
-        indent,
     );
-    let next = m + end.count;
-    let c = pp_tail(
+    let next = m + n;
+    let row = end.row;
+    let s = pp_tail(
         bytes,
         names,
         words,
-        t,
+        p,
         rows,
         text,
-        b,
+        s,
         k,
         next,
         next,
-        end.row,
+        row,
         inner,
-        indent,
     );
-    let d = put_join(rows, text, c);
-    close_paren(rows, text, d, wrapped)
+    let s = put_join(rows, text, s);
+    close_paren(rows, text, s, wrapped)
 }
 
 // An arrow binder, or a run of n others.
@@ -578,7 +470,7 @@ fn pp_run(
     bytes: &[u8],
     names: &[u32],
     words: &[u32],
-    t: Tables,
+    p: Printer,
     rows: &mut [u32],
     text: &mut [u8],
     s: Sink,
@@ -588,47 +480,49 @@ fn pp_run(
     r: usize,
     n: usize,
     arrow: bool,
-    indent: u32,
 ) -> Sink
-    requires { ⌜ (InChain (now bytes) (now names) (now words) t k scope m r) × (binderKind (exprWord (now words) r 0) ≡ true) × (arrow ≡ isArrow (firstBinder (exprAt (over (now bytes) (now names) (now words)) r))) × (n ≡ partLength arrow (exprAt (over (now bytes) (now names) (now words)) r)) ⌝ }
-    ensures { λ v. ⌜ state (now (rows .exit)) (now (text .exit)) v ≡ runPart indent (over (now (bytes .entry)) (now (names .entry)) (now (words .entry))) k arrow (firstBinder (exprAt (over (now (bytes .entry)) (now (names .entry)) (now (words .entry))) r) .isPi) scope m n (exprAt (over (now (bytes .entry)) (now (names .entry)) (now (words .entry))) r) (state (now (rows .entry)) (now (text .entry)) s) ⌝ }
+    requires { ⌜ (InChain (now bytes) (now names) (now words) (p .tables) k scope m r) × (binderKind (exprWord (now words) r 0) ≡ true)
+        × (arrow ≡ isArrow (firstBinder (exprAt (given bytes names words) r)))
+        × (n ≡ partLength arrow (exprAt (given bytes names words) r)) ⌝ }
+    ensures { λ v. ⌜ Leaves rows text s v (runPart (optionsOf p) (lent bytes names words) k arrow
+        (firstBinder (exprAt (lent bytes names words) r) .isPi) scope m n (exprAt (lent bytes names words) r)) ⌝ }
 {
+    let t = p.tables;
     if arrow {
-        let a = pp_expr(
+        let type_row = binder_type(words, t, r);
+        let s = pp_expr(
             bytes,
             names,
             words,
-            t,
+            p,
             rows,
             text,
             s,
             k,
             scope,
-            expr_word(words, t, r, 3),
+            type_row,
             25,
-            indent,
         );
-        return put_arrow(rows, text, a, indent);
+        return put_arrow(rows, text, s, p.indent);
     }
-    let pis = expr_word(words, t, r, 0) == 4;
-    let b = start_run(rows, text, s, pis);
-    let c = telescope(
+    let pis = expr_kind(words, t, r) == EXPR_PI;
+    let s = start_run(rows, text, s, pis);
+    let s = telescope(
         bytes,
         names,
         words,
-        t,
+        p,
         rows,
         text,
-        b,
+        s,
         k,
         scope,
         m,
         r,
         n,
         true,
-        indent,
     );
-    end_run(rows, text, c, indent, pis)
+    end_run(rows, text, s, p.indent, pis)
 }
 
 // The groups of n binders, tiled; after the first, each is a further one of the tile.
@@ -636,7 +530,7 @@ pub fn telescope(
     bytes: &[u8],
     names: &[u32],
     words: &[u32],
-    t: Tables,
+    p: Printer,
     rows: &mut [u32],
     text: &mut [u8],
     s: Sink,
@@ -646,50 +540,53 @@ pub fn telescope(
     r: usize,
     n: usize,
     first: bool,
-    indent: u32,
 ) -> Sink
-    requires { ⌜ (InChain (now bytes) (now names) (now words) t k scope m r) × (n ≤ chainLength (exprAt (over (now bytes) (now names) (now words)) r)) × (first ≡ true → 0 < n) ⌝ }
-    ensures { λ v. ⌜ state (now (rows .exit)) (now (text .exit)) v ≡ groupsPart indent (over (now (bytes .entry)) (now (names .entry)) (now (words .entry))) k first scope m n (exprAt (over (now (bytes .entry)) (now (names .entry)) (now (words .entry))) r) (state (now (rows .entry)) (now (text .entry)) s) ⌝ }
+    requires { ⌜ (InChain (now bytes) (now names) (now words) (p .tables) k scope m r)
+        × (n ≤ chainLength (exprAt (given bytes names words) r))
+        × (first ≡ true → 0 < n) ⌝ }
+    ensures { λ v. ⌜ Leaves rows text s v (groupsPart (optionsOf p) (lent bytes names words) k first scope m n
+        (exprAt (lent bytes names words) r)) ⌝ }
 {
     if n == 0 {
         return s;
     }
-    let style = expr_word(words, t, r, 2);
+    let t = p.tables;
+    let style = binder_style(words, t, r);
     let end = group_end(bytes, names, words, t, r, n);
-    let type_row = expr_word(words, t, r, 3);
-    let a = open_group(rows, text, s, style, first);
-    let b = pp_names(bytes, names, words, t, rows, text, a, r, end.count);
-    let c = put_colon(rows, text, b);
-    let d = pp_expr(
+    let group_type = binder_type(words, t, r);
+    let s = open_group(rows, text, s, style, first);
+    let s = pp_names(bytes, names, words, t, rows, text, s, r, end.count);
+    let s = put_colon(rows, text, s);
+    let s = pp_expr(
         bytes,
         names,
         words,
-        t,
+        p,
         rows,
         text,
-        c,
+        s,
         k,
         scope,
-        type_row,
+        group_type,
         1,
-        indent,
     );
-    let e = close_group(rows, text, d, indent, style, first);
+    let s = close_group(rows, text, s, p.indent, style, first);
     let next = m + end.count;
+    let left = n - end.count;
+    let row = end.row;
     telescope(
         bytes,
         names,
         words,
-        t,
+        p,
         rows,
         text,
-        e,
+        s,
         k,
         next,
         next,
-        end.row,
-        n - end.count,
+        row,
+        left,
         false,
-        indent,
     )
 }

@@ -1,9 +1,2 @@
-// From trees to documents: expressions, binders, declarations.
-pub mod binders;
-pub mod chain;
+// Expressions to documents.
 pub mod exprs;
-pub mod group;
-pub mod leaves;
-pub mod puts;
-pub mod stack;
-pub mod vars;

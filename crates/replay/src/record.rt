@@ -1,184 +1,98 @@
-// The records of the corpus, read from standard input (differential/README.md has the format).
-use crate::words::load;
-use crate::words::word;
-use libc::STDIN_FILENO;
-use utf8::bools::both;
+// What the record of a print says of each call that is made of it (differential/README.md has the format). Kinds of calls: 0 in ample
+// areas, 1 in areas of the exact length, 2 to 4 with the text, the rows or the listing one short; with a pool's first print also 5 and 6
+// for a root that is not there, 7 for an indent of 65, 8 for a width of 65,536.
+use records::field;
+use records::load;
+use records::word;
 ghost use Prim.Native.Nat.{_≤_};
 
-// A pool's record: how many bytes and words it has, and how many prints follow. All 0 where none could be read.
-pub struct PoolRecord {
-    pub bytes: usize,
-    pub words: usize,
-    pub prints: usize,
+pub fn head(data: &[u8]) -> [u32; 16] {
+    let mut h = [0u32; 16];
+    load(data, 0, 16, &mut h);
+    h
 }
 
-// A print's record: what is asked, and the counts that it must answer. `read` is false where none could be read.
-pub struct Print {
-    pub mode: u32,
-    pub root: usize,
-    pub indent: usize,
-    pub width: usize,
-    pub rows: usize,
-    pub text: usize,
-    pub length: usize,
-    pub lines: usize,
-    pub longest: usize,
-    pub tests: usize,
-    pub document: bool,
-    pub read: bool,
+// The words of a record's head and of n bytes after it: where the words of a pool start, and the document rows of a print.
+pub fn past_bytes(n: u32) -> usize {
+    16 + (n as usize + 3) / 4
 }
 
-impl Print {
-    // The same print with other things asked.
-    pub fn asking(self, mode: u32, root: usize, indent: usize, width: usize) -> Print {
-        Print {
-            mode,
-            root,
-            indent,
-            width,
-            rows: self.rows,
-            text: self.text,
-            length: self.length,
-            lines: self.lines,
-            longest: self.longest,
-            tests: self.tests,
-            document: self.document,
-            read: self.read,
+pub fn row_words(n: u32) -> usize {
+    n as usize * 7
+}
+
+pub fn row_bytes(n: u32) -> usize {
+    n as usize * 28
+}
+
+// Mode, root, indent and width. No root is the number of expressions or declarations, which the pool's sixth and seventh word are.
+pub fn asked(pool: &[u8], h: [u32; 16], kind: usize) -> [usize; 4] {
+    let words = past_bytes(word(pool, 0, 2));
+    let root = h[3] as usize;
+    let indent = h[4] as usize;
+    let width = h[5] as usize;
+    match kind {
+        5 => [0, field(pool, words, 5), indent, width],
+        6 => [1, field(pool, words, 6), indent, width],
+        7 => [h[2] as usize, root, 65, width],
+        8 => [h[2] as usize, root, indent, 65536],
+        _ => [h[2] as usize, root, indent, width],
+    }
+}
+
+fn less_one(n: u32, short: bool) -> usize
+    ensures { λ r. ⌜ r ≤ n ⌝ }
+{
+    if short {
+        if 0 < n {
+            return (n - 1) as usize;
         }
     }
+    n as usize
 }
 
-// The words of so many document rows; none past a document's limit.
-pub fn row_words(rows: usize) -> usize
-    ensures { λ r. ⌜ r ≤ 114688 ⌝ }
-{
-    if rows <= 16384 { rows * 7 } else { 0 }
+fn row_words_less_one(n: u32, short: bool) -> usize {
+    less_one(n, short) * 7
 }
 
-// A length in whole words of four bytes; none past what a record can have.
-fn padded(n: usize) -> usize
-    ensures { λ r. ⌜ r ≤ 1000003 ⌝ }
-{
-    if n <= 1000000 { (n + 3) / 4 * 4 } else { 0 }
-}
-
-// The bytes of so many words.
-fn word_bytes(n: usize) -> usize
-    ensures { λ r. ⌜ r ≤ 4000000 ⌝ }
-{
-    if n <= 1000000 { n * 4 } else { 0 }
-}
-
-// Where a print's rows start after its head: past the listing.
-pub fn rows_at(p: Print) -> usize
-    ensures { λ r. ⌜ r ≤ 1000003 ⌝ }
-{
-    padded(p.length)
-}
-
-// Where its text starts.
-pub fn text_at(p: Print) -> usize
-    ensures { λ r. ⌜ r ≤ 1458755 ⌝ }
-{
-    rows_at(p) + row_words(p.rows) * 4
-}
-
-// The bytes that follow its head.
-fn body_length(p: Print) -> usize
-    ensures { λ r. ⌜ r ≤ 2458758 ⌝ }
-{
-    if p.document {
-        return text_at(p) + padded(p.text);
+// The lengths of the lent areas; a few rows and bytes for what is refused before anything is printed.
+pub fn lengths(h: [u32; 16], kind: usize) -> [usize; 3] {
+    if kind == 0 {
+        return [114688, 65536, 65536];
     }
-    rows_at(p)
-}
-
-// Reads so many bytes to the front of an area; false where it or the input has fewer.
-fn read_bytes(area: &mut [u8], n: usize) -> bool {
-    if n <= area.len() {
-        return io::read_full(STDIN_FILENO, &mut area[..n]) == n;
+    if kind > 4 {
+        return [70, 64, 64];
     }
-    false
+    [
+        row_words_less_one(h[6], kind == 3),
+        less_one(h[7], kind == 2),
+        less_one(h[8], kind == 4),
+    ]
 }
 
-fn size(head: &[u8], i: usize) -> usize {
-    word(head, i) as usize
-}
-
-fn print_of(head: &[u8], read: bool) -> Print {
-    Print {
-        mode: word(head, 2),
-        root: size(head, 3),
-        indent: size(head, 4),
-        width: size(head, 5),
-        rows: size(head, 6),
-        text: size(head, 7),
-        length: size(head, 8),
-        lines: size(head, 9),
-        longest: size(head, 10),
-        tests: size(head, 11),
-        document: word(head, 12) == 1,
-        read,
+// Number and place, and the six counts of a success. A text area one byte short is full at the last row that has text bytes.
+pub fn wanted(h: [u32; 16], kind: usize) -> [usize; 8] {
+    match kind {
+        2 => [21, h[13] as usize, 0, 0, 0, 0, 0, 0],
+        3 => [20, less_one(h[6], true), 0, 0, 0, 0, 0, 0],
+        4 => [22, 0, 0, 0, 0, 0, 0, 0],
+        5 => [5, 0, 0, 0, 0, 0, 0, 0],
+        6 => [5, 0, 0, 0, 0, 0, 0, 0],
+        7 => [6, 0, 0, 0, 0, 0, 0, 0],
+        8 => [6, 0, 0, 0, 0, 0, 0, 0],
+        _ => counts(h),
     }
 }
 
-// Reads a head of 16 words; whether it starts with this one.
-fn read_head(head: &mut [u8], first: u32) -> bool {
-    if io::read_full(STDIN_FILENO, head) == 64 {
-        return word(head, 0) == first;
-    }
-    false
-}
-
-// How many pools the corpus has; 0 where it is another file.
-pub fn read_corpus() -> usize {
-    let mut head = [0u8; 64];
-    if read_head(&mut head, 827083092) {
-        return size(&head, 2);
-    }
-    0
-}
-
-// Reads a print, and what follows its head into the area.
-pub fn read_print(body: &mut [u8]) -> Print {
-    let mut head = [0u8; 64];
-    let found = read_head(&mut head, 2);
-    let p = print_of(&head, found);
-    let n = body_length(p);
-    let whole = read_bytes(body, n);
-    let sized = size(&head, 1) == 16 + n / 4;
-    print_of(&head, both(found, both(whole, sized)))
-}
-
-// The words of a pool stand after its bytes.
-fn load_words(raw: &[u8], at: usize, words: &mut [u32], n: usize) -> bool {
-    if n <= words.len() {
-        if at <= raw.len() {
-            load(&raw[at..], &mut words[..n]);
-            return true;
-        }
-    }
-    false
-}
-
-// Reads a pool: its bytes to the front of `raw`, its words into `words`.
-pub fn read_pool(raw: &mut [u8], words: &mut [u32]) -> PoolRecord {
-    let mut head = [0u8; 64];
-    let found = read_head(&mut head, 1);
-    let bytes = size(&head, 2);
-    let count = size(&head, 3);
-    let at = padded(bytes);
-    let whole = read_bytes(raw, at + word_bytes(count));
-    if both(found, both(whole, load_words(raw, at, words, count))) {
-        return PoolRecord {
-            bytes,
-            words: count,
-            prints: size(&head, 4),
-        };
-    }
-    PoolRecord {
-        bytes: 0,
-        words: 0,
-        prints: 0,
-    }
+fn counts(h: [u32; 16]) -> [usize; 8] {
+    [
+        0,
+        0,
+        h[6] as usize,
+        h[7] as usize,
+        h[8] as usize,
+        h[9] as usize,
+        h[10] as usize,
+        h[11] as usize,
+    ]
 }

@@ -9,10 +9,11 @@ use Rattle.document.specs.Doc.{rowCount, textBytes}
 use Rattle.document.specs.Walk.{Marked, plain}
 use Rattle.layout.specs.Layout.{pieces}
 use Rattle.layout.specs.Listing.{bytesOf, longestRow}
-use Rattle.pool.specs.Tree.{Name, anonymous, string, Level, succˡ, paramˡ, Expr, var, sort, const, app, pi, lam, Declar, valued}
+use Rattle.pool.specs.Tree.{Name, anonymous, string, Level, paramˡ, Expr, var, sort, const, app, pi, lam, valued}
 use Rattle.names.specs.Names.{nameDoc}
+use Rattle.binders.specs.Options.{indented}
 use Rattle.pretty_printer.specs.Exprs.{exprDoc}
-use Rattle.pretty_printer.specs.Declars.{declarDoc}
+use Rattle.declarations.specs.Declars.{declarDoc}
 use Rattle.specimens.specs.Computing.{computing}
 
 -- the listing of a document at a width
@@ -39,17 +40,17 @@ fun s t b = lam 0 (name s) 0 t b
 
 -- printed with the indent 2, at the width 120 unless 01 says another
 expr : Expr → List ℕ
-expr e = listing 120 (exprDoc 2 e)
+expr e = listing 120 (exprDoc (indented 2) e)
 
 natToNat : Marked
-natToNat = exprDoc 2 (pi 0 anonymous 0 (constant "Nat") (constant "Nat"))
+natToNat = exprDoc (indented 2) (pi 0 anonymous 0 (constant "Nat") (constant "Nat"))
 
 u : Level
 u = paramˡ (name "u")
 
 -- the type (a : Sort u) → Sort u, with a value
 k : Expr → List ℕ
-k value = listing 120 (declarDoc 2 (valued 3 (name "k") (u ∷ []) (forallᵉ "a" (sort u) (sort u)) value))
+k value = listing 120 (declarDoc (indented 2) (valued 3 (name "k") (u ∷ []) (forallᵉ "a" (sort u) (sort u)) value))
 
 names : List Name → List (List ℕ)
 names [] = []

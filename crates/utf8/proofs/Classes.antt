@@ -1,22 +1,15 @@
 -- Laws of the letterlike classes.
-use Prim.Native.Nat.{ℕ, zero, suc, _+_, _-_, _*_, _≤_, _<_}
+use Prim.Native.Nat.{ℕ, zero, suc, _≤_, _<_}
 use native.Mathlib.Omega.{arith}
 use mathlib.Core.Bool.{Bool, true, false, _&&_, _||_, not, cond}
 use mathlib.Core.List.{List, [], _∷_, _++_}
-use mathlib.Core.Path.{_≡_, refl, sym, ap, _∙_, subst}
+use mathlib.Core.Path.{_≡_, refl, sym, ap, _∙_}
 use lib.ListN.{length, getD, drop}
 use lib.Dec.{ltb, leb, eqb}
 use borrow.Author.Tests.{eq-eqb, ne-eqb, leb-true, ltb-true, le-leb, lt-ltb}
+use Rattle.basics.proofs.Booleans.{and-true, and-false, and-assoc, or-assoc, or-first, or-second, or-none}
 use Rattle.utf8.specs.Letterlike.{notGreek, isStart, isRest, allRest, letterlike, sameBytes, plain}
 use Rattle.utf8.specs.Utf8.{within, points, pointsFrom}
-
-pub or-assoc : (a b c : Bool) → (a || b) || c ≡ a || (b || c)
-or-assoc true b c = refl
-or-assoc false b c = refl
-
-pub and-assoc : (a b c : Bool) → (a && b) && c ≡ a && (b && c)
-and-assoc true b c = refl
-and-assoc false b c = refl
 
 -- what is asked of the points from the first one on, or after it
 unfoldable pub fit : Bool → List ℕ → Bool
@@ -48,13 +41,10 @@ unfolding pointsFrom
 points-none zero bits = refl
 points-none (suc need) bits = refl
 
-and-true : (a : Bool) → a && true ≡ a
-and-true true = refl
-and-true false = refl
-
 pub fit-end : (ok first : Bool) (need bits : ℕ) (s : List ℕ) (t : Bool) → s ≡ [] → ok && fit first (pointsFrom need bits s) ≡ t → ok ≡ t
 fit-end ok first need bits s t e h =
-    sym (ap (λ (x : List ℕ). ok && fit first (pointsFrom need bits x)) e ∙ ap (λ (x : List ℕ). ok && fit first x) (points-none need bits) ∙ ap (λ (x : Bool). ok && x) (fit-none first) ∙ and-true ok) ∙ h
+    sym (ap (λ (x : List ℕ). ok && fit first (pointsFrom need bits x)) e ∙ ap (λ (x : List ℕ). ok && fit first x) (points-none need bits)
+    ∙ ap (λ (x : Bool). ok && x) (fit-none first) ∙ and-true ok) ∙ h
 
 pub fit-start : (s : List ℕ) → true && fit true (pointsFrom 0 0 (drop 0 s)) ≡ letterlike (points s)
 unfolding fit points
@@ -67,28 +57,15 @@ plain-is s a ok r p q e = rw (e, p, q)
 pub two-not : (s : List ℕ) (a b : ℕ) → (length s ≡ 2 → ⊥) → sameBytes s (a ∷ b ∷ []) ≡ false
 unfolding sameBytes
 two-not [] a b h = refl
-two-not (x ∷ []) a b h = ends (eqb x a)
-  where
-    ends : (t : Bool) → t && false ≡ false
-    ends true = refl
-    ends false = refl
+two-not (x ∷ []) a b h = and-false (eqb x a)
 two-not (x ∷ y ∷ []) a b h = absurd (h refl)
-two-not (x ∷ y ∷ z ∷ s) a b h = ends (eqb x a) (eqb y b)
-  where
-    ends : (t u : Bool) → t && (u && false) ≡ false
-    ends true true = refl
-    ends true false = refl
-    ends false u = refl
+two-not (x ∷ y ∷ z ∷ s) a b h = rw (and-false (eqb y b), and-false (eqb x a))
 
 pub two-is : (s : List ℕ) (a b : ℕ) → length s ≡ 2 → eqb (getD s 0 0) a && eqb (getD s 1 0) b ≡ sameBytes s (a ∷ b ∷ [])
 unfolding sameBytes
 two-is [] a b h = absurd (omega arith)
 two-is (x ∷ []) a b h = absurd (omega arith)
-two-is (x ∷ y ∷ []) a b h = ap (λ (t : Bool). eqb x a && t) (sym (ends (eqb y b)))
-  where
-    ends : (t : Bool) → t && true ≡ t
-    ends true = refl
-    ends false = refl
+two-is (x ∷ y ∷ []) a b h = ap (λ (t : Bool). eqb x a && t) (sym (and-true (eqb y b)))
 two-is (x ∷ y ∷ z ∷ s) a b h = absurd (omega arith)
 
 within-no : (lo hi c : ℕ) → (lo ≤ c → c < hi → ⊥) → within lo hi c ≡ false
@@ -101,18 +78,6 @@ within-no lo hi c f = off (leb lo c) (ltb c hi) refl refl
 
 within-yes : (lo hi c : ℕ) → lo ≤ c → c < hi → within lo hi c ≡ true
 within-yes lo hi c p q = rw (le-leb lo c p, lt-ltb c hi q)
-
-or-first : (a b : Bool) → a ≡ true → true ≡ a || b
-or-first true b e = refl
-or-first false b e = absurd (let z : _≡_ {A = ℕ} 0 1 = cc in omega arith)
-
-or-second : (a b : Bool) → b ≡ true → true ≡ a || b
-or-second true b e = refl
-or-second false b e = sym e
-
-or-none : (a b : Bool) → a ≡ false → b ≡ false → false ≡ a || b
-or-none true b e f = absurd (let z : _≡_ {A = ℕ} 0 1 = cc in omega arith)
-or-none false b e f = sym f
 
 -- the decision over the ASCII characters of a start, way by way
 module _ (c : ℕ) where
@@ -160,4 +125,6 @@ module _ (c : ℕ) where
   unfolding isRest
   rest-is s a x y z u v r es ea ex ey ez eu ev er =
       rw (er, ev, eu, es, ea, ex, ey, ez)
-      (ap (λ (t : Bool). isStart c || t) (or-assoc (within 48 58 c) _ _ ∙ ap (λ (t : Bool). within 48 58 c || t) (or-assoc (eqb c 33) _ _ ∙ ap (λ (t : Bool). eqb c 33 || t) (or-assoc (eqb c 63) _ _))))
+      (ap (λ (t : Bool). isStart c || t)
+      (or-assoc (within 48 58 c) _ _ ∙ ap (λ (t : Bool). within 48 58 c || t) (or-assoc (eqb c 33) _ _
+      ∙ ap (λ (t : Bool). eqb c 33 || t) (or-assoc (eqb c 63) _ _))))

@@ -1,5 +1,5 @@
 -- Laws of the scan of UTF-8.
-use Prim.Native.Nat.{ℕ, zero, suc, _+_, _-_, _*_, _≤_, _<_}
+use Prim.Native.Nat.{ℕ, zero, suc, _+_, _-_, _≤_, _<_}
 use native.Mathlib.Omega.{arith}
 use native.Mathlib.Numerals.{add-one}
 use mathlib.Core.Bool.{Bool, true, false, _&&_, _||_, not, cond}
@@ -7,8 +7,9 @@ use mathlib.Core.List.{List, [], _∷_, _++_}
 use mathlib.Core.Path.{_≡_, refl, sym, ap, _∙_, subst}
 use lib.ListN.{length, getD, drop}
 use lib.Seq.{drop-cons}
-use lib.Dec.{ltb, leb, eqb}
-use borrow.Author.Tests.{ltb-true, ltb-false, eq-eqb, ne-eqb}
+use lib.Dec.{ltb, eqb}
+use borrow.Author.Tests.{ltb-true, ltb-false, ne-eqb}
+use Rattle.basics.proofs.Booleans.{and-true, and-assoc}
 use Rattle.utf8.specs.Utf8.{utf8, utf8From, pointsFrom, isLead, followers, leadBits, leastOf, isFollower, withBits, isWhole}
 use Rattle.utf8.specs.Steps.{cap, Ready, Step, begun}
 use Rattle.utf8.specs.declared.scan.Scan.{Scan}
@@ -59,14 +60,6 @@ lead-step bits least b h =
       point = λ s. lead-point-at b s (ltb b 0xc0) (ltb b 0x80) _ _ bits refl refl;
     }
 
-and-true : (a : Bool) → a && true ≡ a
-and-true true = refl
-and-true false = refl
-
-and-assoc : (a b c : Bool) → (a && b) && c ≡ a && (b && c)
-and-assoc true b c = refl
-and-assoc false b c = refl
-
 room-next : (n bits b : ℕ) → n ≤ 2 → bits < cap (suc n) → b < 256 → withBits bits b < cap n
 unfolding cap
 room-next zero bits b l h k = omega arith
@@ -115,7 +108,14 @@ pub follow-step : (need bits least b : ℕ) → 0 < need → need ≤ 3 → bits
 follow-step zero bits least b p few h k = absurd (omega arith)
 follow-step (suc n) bits least b p few h k =
     let e : n ≡ suc n - 1 = omega arith in
-    subst (λ (m : ℕ). Step (suc n) bits least b (record { need = m; bits = withBits bits b; least = least; ok = isFollower b && (not (eqb (suc n) 1) || isWhole least (withBits bits b)); whole = eqb (suc n) 1 })) e
+    subst (λ (m : ℕ). Step (suc n) bits least b
+    (record {
+      need = m;
+      bits = withBits bits b;
+      least = least;
+      ok = isFollower b && (not (eqb (suc n) 1) || isWhole least (withBits bits b));
+      whole = eqb (suc n) 1;
+    })) e
     (follow-at n bits least b (omega arith) h k)
 
 -- the same in the words of the code

@@ -1,6 +1,6 @@
 -- A scan of UTF-8 a byte at a time: what one byte does to what is known.
 use Prim.Native.Nat.{ℕ, zero, suc, _<_, _≤_}
-use mathlib.Core.Bool.{Bool, true, false, _&&_, cond}
+use mathlib.Core.Bool.{true, false, _&&_, cond}
 use mathlib.Core.List.{List, [], _∷_, _++_}
 use mathlib.Core.Path.{_≡_}
 use Rattle.utf8.specs.Utf8.{utf8From, pointsFrom}

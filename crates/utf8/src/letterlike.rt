@@ -1,8 +1,8 @@
 // The letterlike classes of a code point, and which strings of a name are plain.
-use crate::bools::both;
-use crate::bools::either;
-use crate::bools::within;
+use crate::ranges::within;
 use crate::scan;
+use basics::bools::both;
+use basics::bools::either;
 ghost use mathlib.Core.Path.{_≡_};
 ghost use Prim.Native.Nat.{_<_};
 ghost use mathlib.Core.Bool.{_&&_, _||_, not, cond};

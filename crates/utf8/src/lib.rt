@@ -1,6 +1,6 @@
 // UTF-8 of a byte slice, its code points, and the letterlike classes of a code point.
-pub mod bools;
 pub mod letterlike;
+pub mod ranges;
 mod scan;
 
 pub use letterlike::is_letterlike_rest;

@@ -1,8 +1,8 @@
 // A scan of UTF-8, a byte at a time.
-use crate::bools::both;
-use crate::bools::either;
-use crate::bools::less;
-use crate::bools::within;
+use crate::ranges::within;
+use basics::bools::both;
+use basics::bools::either;
+use basics::numbers::less_u32;
 ghost use mathlib.Core.Path.{_≡_};
 ghost use Prim.Native.Nat.{ℕ, _<_};
 ghost use Rattle.utf8.specs.Utf8.{isLead, followers, leadBits, leastOf, isFollower, withBits, isWhole};
@@ -73,7 +73,7 @@ fn with_bits(bits: u32, b: u32) -> u32
     requires { ⌜ (bits < 70600) × (b < 256) ⌝ }
     ensures { λ r. ⌜ r ≡ withBits bits b ⌝ }
 {
-    bits * 64 + less(b, 0x80)
+    bits * 64 + less_u32(b, 0x80)
 }
 
 // No shorter form would do, and it is no surrogate.

@@ -12,8 +12,9 @@ sub-lay-out c = accepted-counts (c .before .before .before .pre .0) .pos
 
 lay-out-requires : tie.Need-lay-out-requires
 lay-out-requires c κs =
-    let a = c .before .before .before .before .args in
-    let pre = c .before .before .before .before .pre in
+    let start = c .before .before .before .before in
+    let a = start .args in
+    let pre = start .pre in
     whole-room (a .rows .now) (a .count) (a .text .now) (a .total) (a .width) (pre .0) (pre .1)
 
 same-length : tie.Need-same-length
@@ -21,11 +22,13 @@ same-length c = search needs
 
 returns : tie.Need-returns
 returns c =
-    let a = c .before .before .before .before .before .before .before .before .args in
+    let start = c .before .before .before .before .before .before .before .before in
+    let a = start .args in
     let lay-out = c .before .before .before .lay-out in
-    let pre = c .before .before .before .before .before .before .before .before .pre in
+    let pre = start .pre in
     let keep = lay-out .kept .1 .1 .1 .1 .1 .1 .1 .1 .0 in
-    answer-short (a .rows .now) (a .count) (a .text .now) (a .total) (a .width) (pre .0) (pre .1) (lay-out .result) (a .listing .now) (lay-out .last .1 .1 .1 .1 .1 .1 .1 .1 .0) (lay-out .ensures) (subst (λ (n : ℕ). n < lay-out .result .position) keep (c .if1 .taken))
+    answer-short (a .rows .now) (a .count) (a .text .now) (a .total) (a .width) (pre .0) (pre .1) (lay-out .result) (a .listing .now)
+    (lay-out .last .1 .1 .1 .1 .1 .1 .1 .1 .0) (lay-out .ensures) (subst (λ (n : ℕ). n < lay-out .result .position) keep (c .if1 .taken))
 
 slice-reshare-prefix-count-of : tie.Need-slice-reshare-prefix-count-of
 slice-reshare-prefix-count-of c = search needs
@@ -44,11 +47,14 @@ same-length-2 c = search needs
 
 returns-2 : tie.Need-returns-2
 returns-2 c =
-    let a = c .before .before .before .before .before .before .before .before .before .before .args in
-    let lay-out = c .before .before .before .before .before .lay-out in
-    let pre = c .before .before .before .before .before .before .before .before .before .before .pre in
+    let at-lay-out = c .before .before .before .before .before in
+    let start = at-lay-out .before .before .before .before .before in
+    let a = start .args in
+    let lay-out = at-lay-out .lay-out in
+    let pre = start .pre in
     let keep = lay-out .kept .1 .1 .1 .1 .1 .1 .1 .1 .0 in
-    answer-done (a .rows .now) (a .count) (a .text .now) (a .total) (a .width) (pre .0) (pre .1) (lay-out .result) (a .listing .now) (lay-out .last .1 .1 .1 .1 .1 .1 .1 .1 .0) (lay-out .ensures) (c .count-of .result) _ (subst (λ (n : ℕ). lay-out .result .position ≤ n) keep (c .before .before .if1 .left)) (c .count-of .ensures .0) refl
+    answer-done (a .rows .now) (a .count) (a .text .now) (a .total) (a .width) (pre .0) (pre .1) (lay-out .result) (a .listing .now) (lay-out .last .1 .1 .1 .1 .1 .1 .1 .1 .0)
+    (lay-out .ensures) (c .count-of .result) _ (subst (λ (n : ℕ). lay-out .result .position ≤ n) keep (c .before .before .if1 .left)) (c .count-of .ensures .0) refl
 
 pub layout-accepted-spec : {M : Type 1} → statement M
 layout-accepted-spec =

@@ -18,11 +18,19 @@ string-part-requires c κs = search needs
 
 returns : tie.Need-returns
 unfolding handOut
-returns c = c .text-part .ensures ∙ sym (ap (handOut (c .before .before .before .before .before .before .before .before .args .bytes .now) (c .before .before .before .before .before .before .before .before .args .words .now) (c .before .before .before .before .before .before .before .before .args .rows .now) (c .before .before .before .before .before .before .before .before .args .count) (c .before .before .before .before .before .before .before .before .args .text .now) (c .before .before .before .before .before .before .before .before .args .total)) (c .before .before .what .given .1))
+returns c =
+    let start = c .before .before .before .before .before .before .before .before in
+    let a = start .args in
+    c .text-part .ensures ∙ sym
+    (ap (handOut (record { bytes = a .bytes .now; words = a .words .now }) (a .rows .now) (a .count) (a .text .now) (a .total)) (c .before .before .what .given .1))
 
 returns-2 : tie.Need-returns-2
 unfolding handOut
-returns-2 c = c .string-part .ensures ∙ sym (ap (handOut (c .before .before .before .before .before .before .before .before .args .bytes .now) (c .before .before .before .before .before .before .before .before .args .words .now) (c .before .before .before .before .before .before .before .before .args .rows .now) (c .before .before .before .before .before .before .before .before .args .count) (c .before .before .before .before .before .before .before .before .args .text .now) (c .before .before .before .before .before .before .before .before .args .total)) (c .before .before .what2 .given .1))
+returns-2 c =
+    let start = c .before .before .before .before .before .before .before .before in
+    let a = start .args in
+    c .string-part .ensures ∙ sym
+    (ap (handOut (record { bytes = a .bytes .now; words = a .words .now }) (a .rows .now) (a .count) (a .text .now) (a .total)) (c .before .before .what2 .given .1))
 
 pub hand-out-spec : {M : Type 1} → statement M
 hand-out-spec =

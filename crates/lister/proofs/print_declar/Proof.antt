@@ -1,6 +1,7 @@
 use mathlib.Core.Path.{_∙_}
 use borrow.Author.Tests.{not-true, not-false}
 use Rattle.pool.specs.Tables.{D}
+use Rattle.lister.specs.Source.{Source}
 use Rattle.lister.specs.Prints.{Areas, printDeclar}
 use Rattle.lister.proofs.Beginning.{refused-call, begins-call, begun-call}
 use borrow.Author.Needs.{needs}
@@ -25,15 +26,32 @@ refusal-requires c κs = search needs
 returns : tie.Need-returns
 unfolding printDeclar
 returns c =
-    let a = c .before .before .before .before .before .before .before .before .before .before .before .before .args in
+    let at-may-print = c .before .before in
+    let at-sizes-ok = at-may-print .before in
+    let at-check = at-sizes-ok .before .before in
+    let at-tables-of = at-check .before in
+    let start = at-tables-of .before .before .before .before .before .before in
+    let a = start .args in
+    let source : Source = record { bytes = a .bytes .now; words = a .words .now } in
     let areas : Areas = record { rows = a .rows .now; text = a .text .now; listing = a .listing .now } in
-    refused-call (a .bytes .now) (a .words .now) (c .before .before .before .before .before .before .tables-of .result) (a .root) (D (a .words .now)) (c .before .before .before .before .before .before .tables-of .result .declars) (a .indent) (a .width) (c .before .before .before .before .before .check .result) (c .before .before .before .sizes-ok .result) (c .before .before .may-print .result) (c .before .before .before .before .before .before .tables-of .ensures) (c .before .before .before .before .before .before .tables-of .ensures .of-words .declars) (c .before .before .before .before .before .check .ensures) (c .before .before .before .sizes-ok .ensures) (c .before .before .may-print .ensures) (not-true _ (c .before .if1 .taken)) _ _ areas (c .refusal .ensures)
+    refused-call source (at-tables-of .tables-of .result) (a .root) (D (a .words .now)) (at-tables-of .tables-of .result .declars) (a .indent) (a .width)
+    (at-check .check .result) (at-sizes-ok .sizes-ok .result) (at-may-print .may-print .result) (at-tables-of .tables-of .ensures)
+    (at-tables-of .tables-of .ensures .of-words .declars) (at-check .check .ensures) (at-sizes-ok .sizes-ok .ensures) (at-may-print .may-print .ensures)
+    (not-true _ (c .before .if1 .taken)) _ _ areas (c .refusal .ensures)
 
 print-checked-declar-requires : tie.Need-print-checked-declar-requires
 print-checked-declar-requires c κs =
-    let a = c .before .before .before .before .before .before .before .before .before .before .before .before .before .before .args in
-    let b = begins-call (a .bytes .now) (a .words .now) (c .before .before .before .before .before .before .before .before .tables-of .result) (a .root) (D (a .words .now)) (c .before .before .before .before .before .before .before .before .tables-of .result .declars) (a .indent) (a .width) (c .before .before .before .before .before .before .before .check .result) (c .before .before .before .before .before .sizes-ok .result) (c .before .before .before .before .may-print .result) (c .before .before .before .before .before .before .before .before .tables-of .ensures) (c .before .before .before .before .before .before .before .before .tables-of .ensures .of-words .declars) (c .before .before .before .before .before .before .before .check .ensures) (c .before .before .before .before .before .sizes-ok .ensures) (c .before .before .before .before .may-print .ensures) (not-false _ (c .before .before .before .if1 .left)) in
-    (b .pool, b .root-there, b .indent-small, b .width-small)
+    let at-may-print = c .before .before .before .before in
+    let at-sizes-ok = at-may-print .before in
+    let at-check = at-sizes-ok .before .before in
+    let at-tables-of = at-check .before in
+    let start = at-tables-of .before .before .before .before .before .before in
+    let a = start .args in
+    let source : Source = record { bytes = a .bytes .now; words = a .words .now } in
+    begins-call source (at-tables-of .tables-of .result) (a .root) (D (a .words .now)) (at-tables-of .tables-of .result .declars) (a .indent) (a .width)
+    (at-check .check .result) (at-sizes-ok .sizes-ok .result) (at-may-print .may-print .result) (at-tables-of .tables-of .ensures)
+    (at-tables-of .tables-of .ensures .of-words .declars) (at-check .check .ensures) (at-sizes-ok .sizes-ok .ensures) (at-may-print .may-print .ensures)
+    (not-false _ (c .before .before .before .if1 .left))
 
 same-length : tie.Need-same-length
 same-length c = search needs
@@ -47,9 +65,20 @@ same-length-3 c = search needs
 returns-2 : tie.Need-returns-2
 unfolding printDeclar
 returns-2 c =
-    let a = c .before .before .before .before .before .before .before .before .before .before .before .before .before .before .before .before .before .before .before .before .before .args in
+    let at-print-checked-declar = c .before .before .before .before .before .before in
+    let at-if1 = at-print-checked-declar .before .before .before .before in
+    let at-may-print = at-if1 .before in
+    let at-sizes-ok = at-may-print .before in
+    let at-check = at-sizes-ok .before .before in
+    let at-tables-of = at-check .before in
+    let start = at-tables-of .before .before .before .before .before .before in
+    let a = start .args in
+    let source : Source = record { bytes = a .bytes .now; words = a .words .now } in
     let areas : Areas = record { rows = a .rows .now; text = a .text .now; listing = a .listing .now } in
-    c .before .before .before .before .before .before .print-checked-declar .ensures ∙ begun-call (a .bytes .now) (a .words .now) (c .before .before .before .before .before .before .before .before .before .before .before .before .before .before .before .tables-of .result) (a .root) (D (a .words .now)) (c .before .before .before .before .before .before .before .before .before .before .before .before .before .before .before .tables-of .result .declars) (a .indent) (a .width) (c .before .before .before .before .before .before .before .before .before .before .before .before .before .before .check .result) (c .before .before .before .before .before .before .before .before .before .before .before .before .sizes-ok .result) (c .before .before .before .before .before .before .before .before .before .before .before .may-print .result) (c .before .before .before .before .before .before .before .before .before .before .before .before .before .before .before .tables-of .ensures) (c .before .before .before .before .before .before .before .before .before .before .before .before .before .before .before .tables-of .ensures .of-words .declars) (c .before .before .before .before .before .before .before .before .before .before .before .before .before .before .check .ensures) (c .before .before .before .before .before .before .before .before .before .before .before .before .sizes-ok .ensures) (c .before .before .before .before .before .before .before .before .before .before .before .may-print .ensures) (not-false _ (c .before .before .before .before .before .before .before .before .before .before .if1 .left)) _ areas
+    at-print-checked-declar .print-checked-declar .ensures ∙ begun-call source (at-tables-of .tables-of .result) (a .root) (D (a .words .now))
+    (at-tables-of .tables-of .result .declars) (a .indent) (a .width) (at-check .check .result) (at-sizes-ok .sizes-ok .result) (at-may-print .may-print .result)
+    (at-tables-of .tables-of .ensures) (at-tables-of .tables-of .ensures .of-words .declars) (at-check .check .ensures) (at-sizes-ok .sizes-ok .ensures)
+    (at-may-print .may-print .ensures) (not-false _ (at-if1 .if1 .left)) _ areas
 
 pub print-declar-spec : {M : Type 1} → statement M
 print-declar-spec =

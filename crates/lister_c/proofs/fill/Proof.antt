@@ -33,13 +33,15 @@ slice-write-out-7 : tie.Need-slice-write-out-7
 slice-write-out-7 c = simp length-set (omega arith)
 
 slice-write-out-8 : tie.Need-slice-write-out-8
-slice-write-out-8 c = search needs
+slice-write-out-8 c = simp length-set (omega arith)
 
 same-length : tie.Need-same-length
 same-length c = search needs
 
 returns-2 : tie.Need-returns-2
-returns-2 c = stored (c .before .before .args .out .now) (c .before .before .args .r) (c .before .if1 .left)
+returns-2 c =
+    let start = c .before .before .before in
+    stored (start .args .out .now) (start .args .r) (c .before .before .if1 .left)
 
 pub fill-spec : {M : Type 1} → statement M
 fill-spec =

@@ -1,6 +1,6 @@
 use mathlib.Core.Path.{sym, ap, _∙_}
 use Rattle.lister.specs.Answers.{number, place}
-use Rattle.lister_c.specs.Reports.{ofAnswer}
+use Rattle.lister_c.specs.Reports.{ofVerdict, printCounts, ofAnswer}
 use borrow.Author.Needs.{needs}
 use Rattle.lister_c.proofs.of_answer.Statement.{statement}
 use Rattle.lister_c.proofs.of_answer.Tie as tie
@@ -8,8 +8,14 @@ use Rattle.lister_c.proofs.of_answer.Tie as tie
 enum-known-v : tie.Need-enum-known-v
 enum-known-v c = search needs
 
-counts-requires : tie.Need-counts-requires
-counts-requires c κs = search needs
+success-requires : tie.Need-success-requires
+success-requires c κs = search needs
+
+enum-known-v-2 : tie.Need-enum-known-v-2
+enum-known-v-2 c = search needs
+
+of-verdict-requires : tie.Need-of-verdict-requires
+of-verdict-requires c κs = search needs
 
 enum-told : tie.Need-enum-told
 enum-told c = search needs
@@ -23,136 +29,94 @@ enum-told-2 c = search needs
 refusal-requires-2 : tie.Need-refusal-requires-2
 refusal-requires-2 c κs = search needs
 
-enum-known-v-2 : tie.Need-enum-known-v-2
-enum-known-v-2 c = search needs
+enum-known-v-3 : tie.Need-enum-known-v-3
+enum-known-v-3 c = search needs
 
 refusal-requires-3 : tie.Need-refusal-requires-3
 refusal-requires-3 c κs = search needs
 
-enum-known-v-3 : tie.Need-enum-known-v-3
-enum-known-v-3 c = search needs
+enum-known-v-4 : tie.Need-enum-known-v-4
+enum-known-v-4 c = search needs
 
 refusal-requires-4 : tie.Need-refusal-requires-4
 refusal-requires-4 c κs = search needs
 
-enum-told-3 : tie.Need-enum-told-3
-enum-told-3 c = search needs
+enum-known-v-5 : tie.Need-enum-known-v-5
+enum-known-v-5 c = search needs
 
 refusal-requires-5 : tie.Need-refusal-requires-5
 refusal-requires-5 c κs = search needs
 
-enum-told-4 : tie.Need-enum-told-4
-enum-told-4 c = search needs
+enum-known-v-6 : tie.Need-enum-known-v-6
+enum-known-v-6 c = search needs
 
 refusal-requires-6 : tie.Need-refusal-requires-6
 refusal-requires-6 c κs = search needs
 
-enum-known-v-4 : tie.Need-enum-known-v-4
-enum-known-v-4 c = search needs
+enum-told-3 : tie.Need-enum-told-3
+enum-told-3 c = search needs
 
 refusal-requires-7 : tie.Need-refusal-requires-7
 refusal-requires-7 c κs = search needs
 
-enum-known-v-5 : tie.Need-enum-known-v-5
-enum-known-v-5 c = search needs
-
-refusal-requires-8 : tie.Need-refusal-requires-8
-refusal-requires-8 c κs = search needs
-
-enum-known-v-6 : tie.Need-enum-known-v-6
-enum-known-v-6 c = search needs
-
-refusal-requires-9 : tie.Need-refusal-requires-9
-refusal-requires-9 c κs = search needs
-
-enum-known-v-7 : tie.Need-enum-known-v-7
-enum-known-v-7 c = search needs
-
-refusal-requires-10 : tie.Need-refusal-requires-10
-refusal-requires-10 c κs = search needs
-
-enum-told-5 : tie.Need-enum-told-5
-enum-told-5 c = search needs
-
-refusal-requires-11 : tie.Need-refusal-requires-11
-refusal-requires-11 c κs = search needs
-
 returns : tie.Need-returns
-unfolding ofAnswer number place
-returns c = c .counts .ensures ∙ sym (ap ofAnswer (c .before .before .v .given .1))
+unfolding ofAnswer ofVerdict printCounts number place
+returns c = c .success .ensures ∙ sym (ap ofAnswer (c .before .before .v .given .1))
 
 returns-2 : tie.Need-returns-2
-unfolding ofAnswer number place
-returns-2 c = c .refusal .ensures ∙ sym (ap ofAnswer (c .before .enum-told .given .1))
+unfolding ofAnswer ofVerdict printCounts number place
+returns-2 c = c .of-verdict .ensures ∙ sym (ap ofAnswer (c .before .before .v2 .given .1))
 
 returns-3 : tie.Need-returns-3
-unfolding ofAnswer number place
-returns-3 c = c .refusal2 .ensures ∙ sym (ap ofAnswer (c .before .enum-told2 .given .1))
+unfolding ofAnswer ofVerdict printCounts number place
+returns-3 c = c .refusal .ensures ∙ sym (ap ofAnswer (c .before .enum-told .given .1))
 
 returns-4 : tie.Need-returns-4
-unfolding ofAnswer number place
-returns-4 c = c .refusal3 .ensures ∙ sym (ap ofAnswer (c .before .before .v2 .given .1))
+unfolding ofAnswer ofVerdict printCounts number place
+returns-4 c = c .refusal2 .ensures ∙ sym (ap ofAnswer (c .before .enum-told2 .given .1))
 
 returns-5 : tie.Need-returns-5
-unfolding ofAnswer number place
-returns-5 c = c .refusal4 .ensures ∙ sym (ap ofAnswer (c .before .before .v3 .given .1))
+unfolding ofAnswer ofVerdict printCounts number place
+returns-5 c = c .refusal3 .ensures ∙ sym (ap ofAnswer (c .before .before .v3 .given .1))
 
 returns-6 : tie.Need-returns-6
-unfolding ofAnswer number place
-returns-6 c = c .refusal5 .ensures ∙ sym (ap ofAnswer (c .before .enum-told3 .given .1))
+unfolding ofAnswer ofVerdict printCounts number place
+returns-6 c = c .refusal4 .ensures ∙ sym (ap ofAnswer (c .before .before .v4 .given .1))
 
 returns-7 : tie.Need-returns-7
-unfolding ofAnswer number place
-returns-7 c = c .refusal6 .ensures ∙ sym (ap ofAnswer (c .before .enum-told4 .given .1))
+unfolding ofAnswer ofVerdict printCounts number place
+returns-7 c = c .refusal5 .ensures ∙ sym (ap ofAnswer (c .before .before .v5 .given .1))
 
 returns-8 : tie.Need-returns-8
-unfolding ofAnswer number place
-returns-8 c = c .refusal7 .ensures ∙ sym (ap ofAnswer (c .before .before .v4 .given .1))
+unfolding ofAnswer ofVerdict printCounts number place
+returns-8 c = c .refusal6 .ensures ∙ sym (ap ofAnswer (c .before .before .v6 .given .1))
 
 returns-9 : tie.Need-returns-9
-unfolding ofAnswer number place
-returns-9 c = c .refusal8 .ensures ∙ sym (ap ofAnswer (c .before .before .v5 .given .1))
-
-returns-10 : tie.Need-returns-10
-unfolding ofAnswer number place
-returns-10 c = c .refusal9 .ensures ∙ sym (ap ofAnswer (c .before .before .v6 .given .1))
-
-returns-11 : tie.Need-returns-11
-unfolding ofAnswer number place
-returns-11 c = c .refusal10 .ensures ∙ sym (ap ofAnswer (c .before .before .v7 .given .1))
-
-returns-12 : tie.Need-returns-12
-unfolding ofAnswer number place
-returns-12 c = c .refusal11 .ensures ∙ sym (ap ofAnswer (c .before .enum-told5 .given .1))
+unfolding ofAnswer ofVerdict printCounts number place
+returns-9 c = c .refusal7 .ensures ∙ sym (ap ofAnswer (c .before .enum-told3 .given .1))
 
 pub of-answer-spec : {M : Type 1} → statement M
 of-answer-spec =
     tie.close
     (tie.spec
     enum-known-v
-    counts-requires
+    success-requires
+    enum-known-v-2
+    of-verdict-requires
     enum-told
     refusal-requires
     enum-told-2
     refusal-requires-2
-    enum-known-v-2
-    refusal-requires-3
     enum-known-v-3
-    refusal-requires-4
-    enum-told-3
-    refusal-requires-5
-    enum-told-4
-    refusal-requires-6
+    refusal-requires-3
     enum-known-v-4
-    refusal-requires-7
+    refusal-requires-4
     enum-known-v-5
-    refusal-requires-8
+    refusal-requires-5
     enum-known-v-6
-    refusal-requires-9
-    enum-known-v-7
-    refusal-requires-10
-    enum-told-5
-    refusal-requires-11
+    refusal-requires-6
+    enum-told-3
+    refusal-requires-7
     returns
     returns-2
     returns-3
@@ -161,7 +125,4 @@ of-answer-spec =
     returns-6
     returns-7
     returns-8
-    returns-9
-    returns-10
-    returns-11
-    returns-12)
+    returns-9)

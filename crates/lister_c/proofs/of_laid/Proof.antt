@@ -1,5 +1,5 @@
 use mathlib.Core.Path.{sym, ap, _∙_}
-use Rattle.lister_c.specs.Reports.{ofLaid}
+use Rattle.lister_c.specs.Reports.{laidCounts, ofLaid}
 use borrow.Author.Needs.{needs}
 use Rattle.lister_c.proofs.of_laid.Statement.{statement}
 use Rattle.lister_c.proofs.of_laid.Tie as tie
@@ -7,8 +7,8 @@ use Rattle.lister_c.proofs.of_laid.Tie as tie
 enum-known-v : tie.Need-enum-known-v
 enum-known-v c = search needs
 
-counts-requires : tie.Need-counts-requires
-counts-requires c κs = search needs
+success-requires : tie.Need-success-requires
+success-requires c κs = search needs
 
 enum-known-v-2 : tie.Need-enum-known-v-2
 enum-known-v-2 c = search needs
@@ -29,19 +29,19 @@ refusal-requires-3 : tie.Need-refusal-requires-3
 refusal-requires-3 c κs = search needs
 
 returns : tie.Need-returns
-unfolding ofLaid
-returns c = c .counts .ensures ∙ sym (ap ofLaid (c .before .before .v .given .1))
+unfolding ofLaid laidCounts
+returns c = c .success .ensures ∙ sym (ap ofLaid (c .before .before .v .given .1))
 
 returns-2 : tie.Need-returns-2
-unfolding ofLaid
+unfolding ofLaid laidCounts
 returns-2 c = c .refusal .ensures ∙ sym (ap ofLaid (c .before .before .v2 .given .1))
 
 returns-3 : tie.Need-returns-3
-unfolding ofLaid
+unfolding ofLaid laidCounts
 returns-3 c = c .refusal2 .ensures ∙ sym (ap ofLaid (c .before .enum-told .given .1))
 
 returns-4 : tie.Need-returns-4
-unfolding ofLaid
+unfolding ofLaid laidCounts
 returns-4 c = c .refusal3 .ensures ∙ sym (ap ofLaid (c .before .enum-told2 .given .1))
 
 pub of-laid-spec : {M : Type 1} → statement M
@@ -49,7 +49,7 @@ of-laid-spec =
     tie.close
     (tie.spec
     enum-known-v
-    counts-requires
+    success-requires
     enum-known-v-2
     refusal-requires
     enum-told

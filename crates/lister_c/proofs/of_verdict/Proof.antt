@@ -1,6 +1,6 @@
 use mathlib.Core.Path.{sym, ap, _∙_}
 use borrow.Author.Needs.{needs}
-use Rattle.pool.specs.Check.{number, place}
+use Rattle.pool_check.specs.Check.{number, place}
 use Rattle.lister_c.specs.Reports.{ofVerdict}
 use Rattle.lister_c.proofs.of_verdict.Statement.{statement}
 use Rattle.lister_c.proofs.of_verdict.Tie as tie

@@ -17,10 +17,13 @@ same-length c = search needs
 
 returns : tie.Need-returns
 returns c =
+    let at-of-verdict = c .before .before .before .before in
+    let at-check = at-of-verdict .before in
+    let start = at-check .before .before .before .before in
     check-answer
-    (c .before .before .before .before .before .before .before .before .before .args .out .now)
-    (c .before .before .before .before .before .check .ensures)
-    (c .before .before .before .before .of-verdict .ensures)
+    (start .args .out .now)
+    (at-check .check .ensures)
+    (at-of-verdict .of-verdict .ensures)
     (c .before .before .fill .ensures)
 
 pub tilusorgu-check-spec : {M : Type 1} → statement M

@@ -20,10 +20,13 @@ same-length-2 c = search needs
 
 returns : tie.Need-returns
 returns c =
+    let at-of-laid = c .before .before .before .before in
+    let at-layout = at-of-laid .before .before .before in
+    let start = at-layout .before .before .before .before .before .before in
     layout-answer
-    (c .before .before .before .before .before .before .before .before .before .before .before .before .before .args .out .now)
-    (c .before .before .before .before .before .before .before .layout .ensures)
-    (c .before .before .before .before .of-laid .ensures)
+    (start .args .out .now)
+    (at-layout .layout .ensures)
+    (at-of-laid .of-laid .ensures)
     (c .before .before .fill .ensures)
 
 pub tilusorgu-layout-spec : {M : Type 1} → statement M

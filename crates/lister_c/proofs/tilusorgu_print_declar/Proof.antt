@@ -25,7 +25,11 @@ same-length-4 : tie.Need-same-length-4
 same-length-4 c = search needs
 
 returns : tie.Need-returns
-returns c = print-answer (c .before .before .before .before .before .before .before .before .before .before .before .before .before .before .before .before .before .before .before .before .before .args .out .now) (c .before .before .before .before .before .before .before .before .before .before .before .print-declar .ensures) (c .before .before .before .before .of-answer .ensures) (c .before .before .fill .ensures)
+returns c =
+    let at-of-answer = c .before .before .before .before in
+    let at-print-declar = at-of-answer .before .before .before .before .before .before .before in
+    let start = at-print-declar .before .before .before .before .before .before .before .before .before .before in
+    print-answer (start .args .out .now) (at-print-declar .print-declar .ensures) (at-of-answer .of-answer .ensures) (c .before .before .fill .ensures)
 
 pub tilusorgu-print-declar-spec : {M : Type 1} → statement M
 tilusorgu-print-declar-spec =

@@ -1,14 +1,11 @@
-use borrow.Author.Needs.{needs}
 use native.Mathlib.Omega.{arith}
-use Prim.Native.Nat.{ℕ, _<_, _≤_, _-_}
+use Prim.Native.Nat.{_≤_, _-_}
 use mathlib.Core.Path.{_≡_, refl}
 use lib.ListN.{length, drop}
 use Rattle.utf8.specs.Letterlike.{sameBytes}
 use Rattle.compare.proofs.NameLaws.{bytes-differ, bytes-on, bytes-off, bytes-end}
 use Rattle.compare.proofs.names.same_bytes.Statement.{statement}
 use Rattle.compare.proofs.names.same_bytes.Tie as tie
-use Rattle.compare.proofs.names.same_bytes.Reads as reads
-use Rattle.compare.proofs.names.same_bytes.Lts as lts
 
 abbrev Inv-loop : tie.InvT-loop
 Inv-loop x y i₀ i = (i ≤ length x) × (length x ≡ length y) × (sameBytes (drop i x) (drop i y) ≡ sameBytes x y)
@@ -29,7 +26,10 @@ shared-slice-read-if2-2 : tie.Need-shared-slice-read-if2-2 Inv-loop μ-loop
 shared-slice-read-if2-2 c = omega arith
 
 returns-2 : tie.Need-returns-2 Inv-loop μ-loop
-returns-2 c = bytes-off (c .before .before .before .before .before .before .args .x .now) (c .before .before .before .before .before .before .args .y .now) (c .before .before .before .before .loop .i) (omega arith) (omega arith) _ (c .if2 .taken) (c .before .before .before .before .loop .inv .2)
+returns-2 c =
+    let at-loop = c .before .before .before .before in
+    let start = at-loop .before .before in
+    bytes-off (start .args .x .now) (start .args .y .now) (at-loop .loop .i) (omega arith) (omega arith) _ (c .if2 .taken) (at-loop .loop .inv .2)
 
 add-i : tie.Need-add-i Inv-loop μ-loop
 add-i c = omega arith
@@ -38,10 +38,15 @@ loop-less : tie.Need-loop-less Inv-loop μ-loop
 loop-less c = omega arith
 
 loop-again : tie.Need-loop-again Inv-loop μ-loop
-loop-again c = (omega arith, omega arith, bytes-on (c .before .before .before .before .before .before .args .x .now) (c .before .before .before .before .before .before .args .y .now) (c .before .before .before .before .loop .i) (omega arith) (omega arith) _ (c .if2 .left) (c .before .before .before .before .loop .inv .2))
+loop-again c =
+    let at-loop = c .before .before .before .before in
+    let start = at-loop .before .before in
+    (omega arith, omega arith, bytes-on (start .args .x .now) (start .args .y .now) (at-loop .loop .i) (omega arith) (omega arith) _ (c .if2 .left) (at-loop .loop .inv .2))
 
 returns-3 : tie.Need-returns-3 Inv-loop μ-loop
-returns-3 c = bytes-end (c .before .before .before .args .x .now) (c .before .before .before .args .y .now) (c .before .loop .i) _ (omega arith) (omega arith) (c .before .loop .inv .2)
+returns-3 c =
+    let start = c .before .before .before in
+    bytes-end (start .args .x .now) (start .args .y .now) (c .before .loop .i) _ (omega arith) (omega arith) (c .before .loop .inv .2)
 
 pub same-bytes-spec : {M : Type 1} → statement M
 same-bytes-spec =

@@ -2,13 +2,11 @@ use borrow.Author.Needs.{needs}
 use Rattle.compare.proofs.NameLaws.{strings-same, parts-same}
 use Rattle.compare.proofs.names.same_string.Statement.{statement}
 use Rattle.compare.proofs.names.same_string.Tie as tie
-use Rattle.compare.proofs.names.same_string.Reads as reads
-use Rattle.compare.proofs.names.same_string.Lts as lts
-use Rattle.compare.proofs.names.same_bytes.Reads as same-bytes-reads
-use Rattle.pool.proofs.tables.string_word.Reads as string-word-reads
 
 returns : tie.Need-returns
-returns c = strings-same (c .before .before .before .args .bytes .now) (c .before .before .before .args .names .now) (c .before .before .before .args .a) (c .before .before .before .args .b) (c .if1 .taken)
+returns c =
+    let start = c .before .before .before in
+    strings-same (start .args .bytes .now) (start .args .names .now) (start .args .a) (start .args .b) (c .if1 .taken)
 
 string-word-requires : tie.Need-string-word-requires
 string-word-requires c κs = search needs
@@ -47,10 +45,17 @@ part-same-bytes-end-2 : tie.Need-part-same-bytes-end-2
 part-same-bytes-end-2 c = search needs
 
 same-bytes-requires : tie.Need-same-bytes-requires
-same-bytes-requires c κs = search needs
+same-bytes-requires c κs = tt
 
 returns-2 : tie.Need-returns-2
-returns-2 c = parts-same (c .before .before .before .before .before .before .before .before .before .before .args .bytes .now) (c .before .before .before .before .before .before .before .before .before .before .args .names .now) (c .before .before .before .before .before .before .before .before .before .before .args .a) (c .before .before .before .before .before .before .before .before .before .before .args .b) _ _ _ _ _ (c .before .before .before .before .before .before .string-word .ensures .0) (c .before .before .before .before .string-word3 .ensures .0) (c .before .before .before .before .before .string-word2 .ensures .0) (c .before .before .before .string-word4 .ensures .0) (c .same-bytes .ensures)
+returns-2 c =
+    let at-string-word3 = c .before .before .before .before in
+    let at-string-word2 = at-string-word3 .before in
+    let at-string-word = at-string-word2 .before in
+    let start = at-string-word .before .before .before .before in
+    parts-same (start .args .bytes .now) (start .args .names .now) (start .args .a) (start .args .b) _ _ _ _ _
+    (at-string-word .string-word .ensures .0) (at-string-word3 .string-word3 .ensures .0) (at-string-word2 .string-word2 .ensures .0)
+    (c .before .before .before .string-word4 .ensures .0) (c .same-bytes .ensures)
 
 pub same-string-spec : {M : Type 1} → statement M
 same-string-spec =

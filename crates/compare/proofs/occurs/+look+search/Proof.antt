@@ -1,8 +1,9 @@
 use borrow.Author.Needs.{needs}
 use native.Mathlib.Omega.{arith}
-use Prim.Native.Nat.{ℕ, _+_, _*_, _<_, _≤_}
-use mathlib.Core.Path.{_≡_, sym, ap, _∙_}
-use Rattle.compare.proofs.SearchLaws.{not-there, row-of-part, of-part, too-low, the-last, was-held, ask-first, in-first, ask-second, in-second, ask-body, in-body, in-none}
+use Prim.Native.Nat.{ℕ, _+_, _*_, _<_}
+use mathlib.Core.Path.{_∙_}
+use Rattle.compare.proofs.SearchLaws.{not-there, row-of-part, of-part, too-low, the-last, was-held, ask-first, in-first, ask-second, in-second, ask-body}
+use Rattle.compare.proofs.SearchLaws.{in-body, in-none}
 use borrow.Fn.Kinds.{In}
 use borrow.Fn.PlainCycle.{Measures, is, falls, and}
 use Rattle.compare.proofs.occurs.look.Reads as look
@@ -18,7 +19,8 @@ use Rattle.compare.proofs.seen.held.Reads as held-reads
 use Rattle.compare.proofs.seen.keep.Reads as keep-reads
 use Rattle.compare.proofs.seen.key.Reads as key-reads
 use Rattle.compare.proofs.seen.row_slot.Reads as row-slot-reads
-use Rattle.pool.proofs.tables.expr_word.Reads as expr-word-reads
+use Rattle.pool.proofs.fields.expr_kind.Reads as expr-kind-reads
+use Rattle.pool.proofs.fields.expr_loose.Reads as expr-loose-reads
 use Rattle.compare.proofs.occurs.+look+search.{statement}
 use Rattle.compare.proofs.occurs.+look+search.Tie.{close}
 
@@ -44,34 +46,68 @@ abbrev look-cs : ℕ → look-lts.Claims
 look-cs t = (search-below t, search′.Post)
 
 abbrev search-cs : ℕ → search-lts.Claims
-search-cs t = (expr-word-reads.Asked, expr-word-reads.Learnt, key-reads.Asked, key-reads.Learnt, row-slot-reads.Asked, row-slot-reads.Learnt, held-reads.Asked, held-reads.Learnt, first-part-reads.Asked, first-part-reads.Learnt, look-below t, look.Post, second-part-reads.Asked, second-part-reads.Learnt, body-part-reads.Asked, body-part-reads.Learnt, keep-reads.Asked, keep-reads.Learnt)
+search-cs t = (
+  expr-loose-reads.Asked,
+  expr-loose-reads.Learnt,
+  key-reads.Asked,
+  key-reads.Learnt,
+  row-slot-reads.Asked,
+  row-slot-reads.Learnt,
+  held-reads.Asked,
+  held-reads.Learnt,
+  expr-kind-reads.Asked,
+  expr-kind-reads.Learnt,
+  first-part-reads.Asked,
+  first-part-reads.Learnt,
+  look-below t,
+  look.Post,
+  second-part-reads.Asked,
+  second-part-reads.Learnt,
+  body-part-reads.Asked,
+  body-part-reads.Learnt,
+  keep-reads.Asked,
+  keep-reads.Learnt,
+)
 
 look-returns : (t : ℕ) → look-lts.Need-returns (look-cs t) (look-at t) look.Post
-look-returns t c = not-there _ _ _ _ _ _ (c .before .before .before .before .before .args .i) (c .before .before .before .before .before .pre .1) (c .if1 .taken)
+look-returns t c =
+    let start = c .before .before .before .before .before in
+    not-there _ _ _ _ _ _ (start .args .i) (start .pre .1) (c .if1 .taken)
 
 look-sub-search : (t : ℕ) → look-lts.Need-sub-search (look-cs t) (look-at t) look.Post
 look-sub-search t c = omega arith
 
 look-search-requires : (t : ℕ) → look-lts.Need-search-requires (look-cs t) (look-at t) look.Post
-look-search-requires t c κs = (omega (arith, c .before .before .before .before .before .before .pre .0), row-of-part _ _ _ _ _ _ (c .before .before .before .before .before .before .args .i) (c .before .before .before .before .before .before .pre .1) (c .before .if1 .left))
+look-search-requires t c κs =
+    let start = c .before .before .before .before .before .before in
+    (omega (arith, start .pre .0), row-of-part _ _ _ _ _ _ (start .args .i) (start .pre .1) (c .before .if1 .left))
 
 look-same-length : (t : ℕ) → look-lts.Need-same-length (look-cs t) (look-at t) look.Post
 look-same-length t c = c .before .before .search .kept .1 .1 .1 .1 .0
 
 look-returns-2 : (t : ℕ) → look-lts.Need-returns-2 (look-cs t) (look-at t) look.Post
-look-returns-2 t c = of-part _ _ _ _ _ _ (c .before .before .before .before .before .before .before .before .before .args .i) (c .before .before .before .before .before .before .before .before .before .pre .1) (c .before .before .before .before .if1 .left) _ _ (c .before .before .search .ensures)
+look-returns-2 t c =
+    let at-if1 = c .before .before .before .before in
+    let start = at-if1 .before .before .before .before .before in
+    of-part _ _ _ _ _ _ (start .args .i) (start .pre .1) (at-if1 .if1 .left) _ _ (c .before .before .search .ensures)
 
-search-expr-word-requires : (t : ℕ) → search-lts.Need-expr-word-requires (search-cs t) (search-at t) search′.Post
-search-expr-word-requires t c κs = (c .before .before .before .before .pre .1 .ready .of-words, omega arith)
+search-expr-loose-requires : (t : ℕ) → search-lts.Need-expr-loose-requires (search-cs t) (search-at t) search′.Post
+search-expr-loose-requires t c κs =
+    let start = c .before .before .before .before in
+    start .pre .1 .ready .tables .of-words
 
 search-returns : (t : ℕ) → search-lts.Need-returns (search-cs t) (search-at t) search′.Post
-search-returns t c = too-low _ _ _ _ _ _ (c .before .before .before .before .before .before .args .i) (c .before .before .before .before .before .before .pre .1) _ (c .before .expr-word .ensures .0) (c .if1 .taken)
+search-returns t c =
+    let start = c .before .before .before .before .before .before in
+    too-low _ _ _ _ _ _ (start .args .i) (start .pre .1) _ (c .before .expr-loose .ensures .0) (c .if1 .taken)
 
 search-add-if2 : (t : ℕ) → search-lts.Need-add-if2 (search-cs t) (search-at t) search′.Post
-search-add-if2 t c = record { fits = omega (arith, c .before .expr-word .ensures .1, c .if1 .left) }
+search-add-if2 t c = record { fits = omega (arith, c .before .expr-loose .ensures .1, c .if1 .left) }
 
 search-returns-2 : (t : ℕ) → search-lts.Need-returns-2 (search-cs t) (search-at t) search′.Post
-search-returns-2 t c = the-last _ _ _ _ _ _ (c .before .before .before .before .before .before .before .args .i) (c .before .before .before .before .before .before .before .pre .1) _ (c .before .before .expr-word .ensures .0) (c .if2 .taken)
+search-returns-2 t c =
+    let start = c .before .before .before .before .before .before .before in
+    the-last _ _ _ _ _ _ (start .args .i) (start .pre .1) _ (c .before .before .expr-loose .ensures .0) (c .if2 .taken)
 
 search-key-requires : (t : ℕ) → search-lts.Need-key-requires (search-cs t) (search-at t) search′.Post
 search-key-requires t c κs = tt
@@ -86,67 +122,165 @@ search-same-length : (t : ℕ) → search-lts.Need-same-length (search-cs t) (se
 search-same-length t c = search needs
 
 search-returns-3 : (t : ℕ) → search-lts.Need-returns-3 (search-cs t) (search-at t) search′.Post
-search-returns-3 t c = was-held _ _ _ _ _ _ (c .before .before .before .before .before .before .before .before .before .before .before .before .args .i) (c .before .before .before .before .before .before .before .before .before .before .before .before .pre .1) _ (c .before .before .before .before .before .before .before .expr-word .ensures .0) (c .before .before .before .row-slot .result) _ _ (c .before .before .before .before .key .ensures) (c .before .held .ensures) (c .if3 .taken)
+search-returns-3 t c =
+    let at-key = c .before .before .before .before in
+    let at-expr-loose = at-key .before .before .before in
+    let start = at-expr-loose .before .before .before .before .before in
+    was-held _ _ _ _ _ _ (start .args .i) (start .pre .1) _ (at-expr-loose .expr-loose .ensures .0) (c .before .before .before .row-slot .result) _ _
+    (at-key .key .ensures) (c .before .held .ensures) (c .if3 .taken)
 
-search-expr-word-requires-2 : (t : ℕ) → search-lts.Need-expr-word-requires-2 (search-cs t) (search-at t) search′.Post
-search-expr-word-requires-2 t c κs = (c .before .before .before .before .before .before .before .before .before .before .before .before .pre .1 .ready .of-words, omega arith)
+search-expr-kind-requires : (t : ℕ) → search-lts.Need-expr-kind-requires (search-cs t) (search-at t) search′.Post
+search-expr-kind-requires t c κs =
+    let start = c .before .before .before .before .before .before .before .before .before .before .before .before in
+    start .pre .1 .ready .tables .of-words
 
 search-first-part-requires : (t : ℕ) → search-lts.Need-first-part-requires (search-cs t) (search-at t) search′.Post
-search-first-part-requires t c κs = c .before .before .before .before .before .before .before .before .before .before .before .before .before .pre .1 .ready .of-words
+search-first-part-requires t c κs =
+    let start = c .before .before .before .before .before .before .before .before .before .before .before .before .before in
+    start .pre .1 .ready .tables .of-words
 
 search-look-requires : (t : ℕ) → search-lts.Need-look-requires (search-cs t) (search-at t) search′.Post
-search-look-requires t c κs = (
-  omega (arith, ask-first _ _ _ _ _ _ (c .before .before .before .before .before .before .before .before .before .before .before .before .before .before .before .args .i) (c .before .before .before .before .before .before .before .before .before .before .before .before .before .before .before .pre .1) _ (c .before .before .before .before .before .before .before .before .before .before .expr-word .ensures .0) (c .before .before .before .before .before .before .before .before .if2 .left) _ (c .before .before .expr-word2 .ensures .0) _ (c .before .first-part .ensures) .0, c .before .before .before .before .before .before .before .before .before .before .before .before .before .before .before .pre .0),
-  ask-first _ _ _ _ _ _ (c .before .before .before .before .before .before .before .before .before .before .before .before .before .before .before .args .i) (c .before .before .before .before .before .before .before .before .before .before .before .before .before .before .before .pre .1) _ (c .before .before .before .before .before .before .before .before .before .before .expr-word .ensures .0) (c .before .before .before .before .before .before .before .before .if2 .left) _ (c .before .before .expr-word2 .ensures .0) _ (c .before .first-part .ensures) .1,
-)
+search-look-requires t c κs =
+    let at-if2 = c .before .before .before .before .before .before .before .before in
+    let at-expr-loose = at-if2 .before .before in
+    let start = at-expr-loose .before .before .before .before .before in
+    let asked = ask-first _ _ _ _ _ _ (start .args .i) (start .pre .1) _ (at-expr-loose .expr-loose .ensures .0) (at-if2 .if2 .left) _
+    (c .before .before .expr-kind .ensures .0) _ (c .before .first-part .ensures) in
+    (omega (arith, asked .0, start .pre .0), asked .1)
 
 search-same-length-2 : (t : ℕ) → search-lts.Need-same-length-2 (search-cs t) (search-at t) search′.Post
 search-same-length-2 t c = c .before .before .before .look .kept .1 .1 .1 .1 .0
 
 search-returns-4 : (t : ℕ) → search-lts.Need-returns-4 (search-cs t) (search-at t) search′.Post
-search-returns-4 t c = in-first _ _ _ _ _ _ (c .before .before .before .before .before .before .before .before .before .before .before .before .before .before .before .before .before .before .before .args .i) (c .before .before .before .before .before .before .before .before .before .before .before .before .before .before .before .before .before .before .before .pre .1) _ (c .before .before .before .before .before .before .before .before .before .before .before .before .before .before .expr-word .ensures .0) (c .before .before .before .before .before .before .before .before .before .before .before .before .if2 .left) _ (c .before .before .before .before .before .before .expr-word2 .ensures .0) _ (c .before .before .before .before .before .first-part .ensures) _ _ (c .before .before .before .look .ensures) (c .if4 .taken)
+search-returns-4 t c =
+    let at-first-part = c .before .before .before .before .before in
+    let at-expr-kind = at-first-part .before in
+    let at-if2 = at-expr-kind .before .before .before .before .before .before in
+    let at-expr-loose = at-if2 .before .before in
+    let start = at-expr-loose .before .before .before .before .before in
+    in-first _ _ _ _ _ _ (start .args .i) (start .pre .1) _ (at-expr-loose .expr-loose .ensures .0) (at-if2 .if2 .left) _
+    (at-expr-kind .expr-kind .ensures .0) _ (at-first-part .first-part .ensures) _ _ (c .before .before .before .look .ensures) (c .if4 .taken)
 
 search-second-part-requires : (t : ℕ) → search-lts.Need-second-part-requires (search-cs t) (search-at t) search′.Post
-search-second-part-requires t c κs = c .before .before .before .before .before .before .before .before .before .before .before .before .before .before .before .before .before .before .before .pre .1 .ready .of-words
+search-second-part-requires t c κs =
+    let start = c .before .before .before .before .before .before .before .before .before .before .before .before .before .before .before .before .before .before .before in
+    start .pre .1 .ready .tables .of-words
 
 search-look-requires-2 : (t : ℕ) → search-lts.Need-look-requires-2 (search-cs t) (search-at t) search′.Post
-search-look-requires-2 t c κs = (
-  omega (arith, ask-second _ _ _ _ _ _ (c .before .before .before .before .before .before .before .before .before .before .before .before .before .before .before .before .before .before .before .before .before .args .i) (c .before .before .before .before .before .before .before .before .before .before .before .before .before .before .before .before .before .before .before .before .before .pre .1) _ (c .before .before .before .before .before .before .before .before .before .before .before .before .before .before .before .before .expr-word .ensures .0) (c .before .before .before .before .before .before .before .before .before .before .before .before .before .before .if2 .left) _ (c .before .before .before .before .before .before .before .before .expr-word2 .ensures .0) _ (c .before .before .before .before .before .before .before .first-part .ensures) _ _ (c .before .before .before .before .before .look .ensures) (c .before .before .if4 .left) _ (c .before .second-part .ensures) .0, c .before .before .before .before .before .before .before .before .before .before .before .before .before .before .before .before .before .before .before .before .before .pre .0),
-  ask-second _ _ _ _ _ _ (c .before .before .before .before .before .before .before .before .before .before .before .before .before .before .before .before .before .before .before .before .before .args .i) (c .before .before .before .before .before .before .before .before .before .before .before .before .before .before .before .before .before .before .before .before .before .pre .1) _ (c .before .before .before .before .before .before .before .before .before .before .before .before .before .before .before .before .expr-word .ensures .0) (c .before .before .before .before .before .before .before .before .before .before .before .before .before .before .if2 .left) _ (c .before .before .before .before .before .before .before .before .expr-word2 .ensures .0) _ (c .before .before .before .before .before .before .before .first-part .ensures) _ _ (c .before .before .before .before .before .look .ensures) (c .before .before .if4 .left) _ (c .before .second-part .ensures) .1,
-)
+search-look-requires-2 t c κs =
+    let at-look = c .before .before .before .before .before in
+    let at-first-part = at-look .before .before in
+    let at-expr-kind = at-first-part .before in
+    let at-if2 = at-expr-kind .before .before .before .before .before .before in
+    let at-expr-loose = at-if2 .before .before in
+    let start = at-expr-loose .before .before .before .before .before in
+    let asked = ask-second _ _ _ _ _ _ (start .args .i) (start .pre .1) _ (at-expr-loose .expr-loose .ensures .0) (at-if2 .if2 .left) _
+    (at-expr-kind .expr-kind .ensures .0) _ (at-first-part .first-part .ensures) _ _ (at-look .look .ensures) (c .before .before .if4 .left) _
+    (c .before .second-part .ensures) in
+    (omega (arith, asked .0, start .pre .0), asked .1)
 
 search-same-length-3 : (t : ℕ) → search-lts.Need-same-length-3 (search-cs t) (search-at t) search′.Post
-search-same-length-3 t c = c .before .before .before .look2 .kept .1 .1 .1 .1 .0 ∙ c .before .before .before .before .before .before .before .before .before .look .kept .1 .1 .1 .1 .0
+search-same-length-3 t c =
+    let at-look = c .before .before .before .before .before .before .before .before .before in
+    c .before .before .before .look2 .kept .1 .1 .1 .1 .0 ∙ at-look .look .kept .1 .1 .1 .1 .0
 
 search-returns-5 : (t : ℕ) → search-lts.Need-returns-5 (search-cs t) (search-at t) search′.Post
-search-returns-5 t c = in-second _ _ _ _ _ _ (c .before .before .before .before .before .before .before .before .before .before .before .before .before .before .before .before .before .before .before .before .before .before .before .before .before .args .i) (c .before .before .before .before .before .before .before .before .before .before .before .before .before .before .before .before .before .before .before .before .before .before .before .before .before .pre .1) _ (c .before .before .before .before .before .before .before .before .before .before .before .before .before .before .before .before .before .before .before .before .expr-word .ensures .0) (c .before .before .before .before .before .before .before .before .before .before .before .before .before .before .before .before .before .before .if2 .left) _ (c .before .before .before .before .before .before .before .before .before .before .before .before .expr-word2 .ensures .0) _ (c .before .before .before .before .before .before .before .before .before .before .before .first-part .ensures) _ _ (c .before .before .before .before .before .before .before .before .before .look .ensures) (c .before .before .before .before .before .before .if4 .left) _ (c .before .before .before .before .before .second-part .ensures) _ _ (c .before .before .before .look2 .ensures) (c .if5 .taken)
+search-returns-5 t c =
+    let at-second-part = c .before .before .before .before .before in
+    let at-if4 = at-second-part .before in
+    let at-look = at-if4 .before .before .before in
+    let at-first-part = at-look .before .before in
+    let at-expr-kind = at-first-part .before in
+    let at-if2 = at-expr-kind .before .before .before .before .before .before in
+    let at-expr-loose = at-if2 .before .before in
+    let start = at-expr-loose .before .before .before .before .before in
+    in-second _ _ _ _ _ _ (start .args .i) (start .pre .1) _ (at-expr-loose .expr-loose .ensures .0) (at-if2 .if2 .left) _
+    (at-expr-kind .expr-kind .ensures .0) _ (at-first-part .first-part .ensures) _ _ (at-look .look .ensures) (at-if4 .if4 .left) _
+    (at-second-part .second-part .ensures) _ _ (c .before .before .before .look2 .ensures) (c .if5 .taken)
 
 search-body-part-requires : (t : ℕ) → search-lts.Need-body-part-requires (search-cs t) (search-at t) search′.Post
-search-body-part-requires t c κs = c .before .before .before .before .before .before .before .before .before .before .before .before .before .before .before .before .before .before .before .before .before .before .before .before .before .pre .1 .ready .of-words
+search-body-part-requires t c κs =
+    let start = c .before .before .before .before .before .before .before .before .before .before .before
+    .before .before .before .before .before .before .before .before .before .before .before .before .before .before in
+    start .pre .1 .ready .tables .of-words
 
 search-add-look : (t : ℕ) → search-lts.Need-add-look (search-cs t) (search-at t) search′.Post
-search-add-look t c = record { fits = omega (arith, c .before .before .before .before .before .before .before .before .before .before .before .before .before .before .before .before .before .before .before .before .before .before .expr-word .ensures .1, c .before .before .before .before .before .before .before .before .before .before .before .before .before .before .before .before .before .before .before .before .before .if1 .left) }
+search-add-look t c =
+    let at-if1 = c .before .before .before .before .before .before .before .before .before .before .before .before .before .before .before .before .before .before .before .before .before in
+    let at-expr-loose = at-if1 .before in
+    record { fits = omega (arith, at-expr-loose .expr-loose .ensures .1, at-if1 .if1 .left) }
 
 search-look-requires-3 : (t : ℕ) → search-lts.Need-look-requires-3 (search-cs t) (search-at t) search′.Post
-search-look-requires-3 t c κs = (
-  omega (arith, ask-body _ _ _ _ _ _ (c .before .before .before .before .before .before .before .before .before .before .before .before .before .before .before .before .before .before .before .before .before .before .before .before .before .before .before .args .i) (c .before .before .before .before .before .before .before .before .before .before .before .before .before .before .before .before .before .before .before .before .before .before .before .before .before .before .before .pre .1) _ (c .before .before .before .before .before .before .before .before .before .before .before .before .before .before .before .before .before .before .before .before .before .before .expr-word .ensures .0) (c .before .before .before .before .before .before .before .before .before .before .before .before .before .before .before .before .before .before .before .before .if2 .left) _ (c .before .before .before .before .before .before .before .before .before .before .before .before .before .before .expr-word2 .ensures .0) _ (c .before .before .before .before .before .before .before .before .before .before .before .before .before .first-part .ensures) _ _ (c .before .before .before .before .before .before .before .before .before .before .before .look .ensures) (c .before .before .before .before .before .before .before .before .if4 .left) _ (c .before .before .before .before .before .before .before .second-part .ensures) _ _ (c .before .before .before .before .before .look2 .ensures) (c .before .before .if5 .left) _ (c .before .body-part .ensures) .0, c .before .before .before .before .before .before .before .before .before .before .before .before .before .before .before .before .before .before .before .before .before .before .before .before .before .before .before .pre .0),
-  ask-body _ _ _ _ _ _ (c .before .before .before .before .before .before .before .before .before .before .before .before .before .before .before .before .before .before .before .before .before .before .before .before .before .before .before .args .i) (c .before .before .before .before .before .before .before .before .before .before .before .before .before .before .before .before .before .before .before .before .before .before .before .before .before .before .before .pre .1) _ (c .before .before .before .before .before .before .before .before .before .before .before .before .before .before .before .before .before .before .before .before .before .before .expr-word .ensures .0) (c .before .before .before .before .before .before .before .before .before .before .before .before .before .before .before .before .before .before .before .before .if2 .left) _ (c .before .before .before .before .before .before .before .before .before .before .before .before .before .before .expr-word2 .ensures .0) _ (c .before .before .before .before .before .before .before .before .before .before .before .before .before .first-part .ensures) _ _ (c .before .before .before .before .before .before .before .before .before .before .before .look .ensures) (c .before .before .before .before .before .before .before .before .if4 .left) _ (c .before .before .before .before .before .before .before .second-part .ensures) _ _ (c .before .before .before .before .before .look2 .ensures) (c .before .before .if5 .left) _ (c .before .body-part .ensures) .1,
-)
+search-look-requires-3 t c κs =
+    let at-look2 = c .before .before .before .before .before in
+    let at-second-part = at-look2 .before .before in
+    let at-if4 = at-second-part .before in
+    let at-look = at-if4 .before .before .before in
+    let at-first-part = at-look .before .before in
+    let at-expr-kind = at-first-part .before in
+    let at-if2 = at-expr-kind .before .before .before .before .before .before in
+    let at-expr-loose = at-if2 .before .before in
+    let start = at-expr-loose .before .before .before .before .before in
+    let asked = ask-body _ _ _ _ _ _ (start .args .i) (start .pre .1) _ (at-expr-loose .expr-loose .ensures .0) (at-if2 .if2 .left) _
+    (at-expr-kind .expr-kind .ensures .0) _ (at-first-part .first-part .ensures) _ _ (at-look .look .ensures) (at-if4 .if4 .left) _
+    (at-second-part .second-part .ensures) _ _ (at-look2 .look2 .ensures) (c .before .before .if5 .left) _ (c .before .body-part .ensures) in
+    (omega (arith, asked .0, start .pre .0), asked .1)
 
 search-same-length-4 : (t : ℕ) → search-lts.Need-same-length-4 (search-cs t) (search-at t) search′.Post
-search-same-length-4 t c = c .before .before .before .look3 .kept .1 .1 .1 .1 .0 ∙ c .before .before .before .before .before .before .before .before .before .look2 .kept .1 .1 .1 .1 .0 ∙ c .before .before .before .before .before .before .before .before .before .before .before .before .before .before .before .look .kept .1 .1 .1 .1 .0
+search-same-length-4 t c =
+    let at-look2 = c .before .before .before .before .before .before .before .before .before in
+    let at-look = at-look2 .before .before .before .before .before .before in
+    c .before .before .before .look3 .kept .1 .1 .1 .1 .0 ∙ at-look2 .look2 .kept .1 .1 .1 .1 .0 ∙ at-look .look .kept .1 .1 .1 .1 .0
 
 search-returns-6 : (t : ℕ) → search-lts.Need-returns-6 (search-cs t) (search-at t) search′.Post
-search-returns-6 t c = in-body _ _ _ _ _ _ (c .before .before .before .before .before .before .before .before .before .before .before .before .before .before .before .before .before .before .before .before .before .before .before .before .before .before .before .before .before .before .before .args .i) (c .before .before .before .before .before .before .before .before .before .before .before .before .before .before .before .before .before .before .before .before .before .before .before .before .before .before .before .before .before .before .before .pre .1) _ (c .before .before .before .before .before .before .before .before .before .before .before .before .before .before .before .before .before .before .before .before .before .before .before .before .before .before .expr-word .ensures .0) (c .before .before .before .before .before .before .before .before .before .before .before .before .before .before .before .before .before .before .before .before .before .before .before .before .if2 .left) _ (c .before .before .before .before .before .before .before .before .before .before .before .before .before .before .before .before .before .before .expr-word2 .ensures .0) _ (c .before .before .before .before .before .before .before .before .before .before .before .before .before .before .before .before .before .first-part .ensures) _ _ (c .before .before .before .before .before .before .before .before .before .before .before .before .before .before .before .look .ensures) (c .before .before .before .before .before .before .before .before .before .before .before .before .if4 .left) _ (c .before .before .before .before .before .before .before .before .before .before .before .second-part .ensures) _ _ (c .before .before .before .before .before .before .before .before .before .look2 .ensures) (c .before .before .before .before .before .before .if5 .left) _ (c .before .before .before .before .before .body-part .ensures) _ _ (c .before .before .before .look3 .ensures) (c .if6 .taken)
+search-returns-6 t c =
+    let at-body-part = c .before .before .before .before .before in
+    let at-if5 = at-body-part .before in
+    let at-look2 = at-if5 .before .before .before in
+    let at-second-part = at-look2 .before .before in
+    let at-if4 = at-second-part .before in
+    let at-look = at-if4 .before .before .before in
+    let at-first-part = at-look .before .before in
+    let at-expr-kind = at-first-part .before in
+    let at-if2 = at-expr-kind .before .before .before .before .before .before in
+    let at-expr-loose = at-if2 .before .before in
+    let start = at-expr-loose .before .before .before .before .before in
+    in-body _ _ _ _ _ _ (start .args .i) (start .pre .1) _ (at-expr-loose .expr-loose .ensures .0) (at-if2 .if2 .left) _
+    (at-expr-kind .expr-kind .ensures .0) _ (at-first-part .first-part .ensures) _ _ (at-look .look .ensures) (at-if4 .if4 .left) _
+    (at-second-part .second-part .ensures) _ _ (at-look2 .look2 .ensures) (at-if5 .if5 .left) _ (at-body-part .body-part .ensures) _ _
+    (c .before .before .before .look3 .ensures) (c .if6 .taken)
 
 search-keep-requires : (t : ℕ) → search-lts.Need-keep-requires (search-cs t) (search-at t) search′.Post
 search-keep-requires t c κs = tt
 
 search-same-length-5 : (t : ℕ) → search-lts.Need-same-length-5 (search-cs t) (search-at t) search′.Post
-search-same-length-5 t c = c .before .before .keep .kept .0 ∙ c .before .before .before .before .before .before .before .look3 .kept .1 .1 .1 .1 .0 ∙ c .before .before .before .before .before .before .before .before .before .before .before .before .before .look2 .kept .1 .1 .1 .1 .0 ∙ c .before .before .before .before .before .before .before .before .before .before .before .before .before .before .before .before .before .before .before .look .kept .1 .1 .1 .1 .0
+search-same-length-5 t c =
+    let at-look3 = c .before .before .before .before .before .before .before in
+    let at-look2 = at-look3 .before .before .before .before .before .before in
+    let at-look = at-look2 .before .before .before .before .before .before in
+    c .before .before .keep .kept .0 ∙ at-look3 .look3 .kept .1 .1 .1 .1 .0 ∙ at-look2 .look2 .kept .1 .1 .1 .1 .0 ∙ at-look .look .kept .1 .1 .1 .1 .0
 
 search-returns-7 : (t : ℕ) → search-lts.Need-returns-7 (search-cs t) (search-at t) search′.Post
-search-returns-7 t c = in-none _ _ _ _ _ _ (c .before .before .before .before .before .before .before .before .before .before .before .before .before .before .before .before .before .before .before .before .before .before .before .before .before .before .before .before .before .before .before .before .before .before .before .args .i) (c .before .before .before .before .before .before .before .before .before .before .before .before .before .before .before .before .before .before .before .before .before .before .before .before .before .before .before .before .before .before .before .before .before .before .before .pre .1) _ (c .before .before .before .before .before .before .before .before .before .before .before .before .before .before .before .before .before .before .before .before .before .before .before .before .before .before .before .before .before .before .expr-word .ensures .0) (c .before .before .before .before .before .before .before .before .before .before .before .before .before .before .before .before .before .before .before .before .before .before .before .before .before .before .before .before .if2 .left) _ (c .before .before .before .before .before .before .before .before .before .before .before .before .before .before .before .before .before .before .before .before .before .before .expr-word2 .ensures .0) _ (c .before .before .before .before .before .before .before .before .before .before .before .before .before .before .before .before .before .before .before .before .before .first-part .ensures) _ _ (c .before .before .before .before .before .before .before .before .before .before .before .before .before .before .before .before .before .before .before .look .ensures) (c .before .before .before .before .before .before .before .before .before .before .before .before .before .before .before .before .if4 .left) _ (c .before .before .before .before .before .before .before .before .before .before .before .before .before .before .before .second-part .ensures) _ _ (c .before .before .before .before .before .before .before .before .before .before .before .before .before .look2 .ensures) (c .before .before .before .before .before .before .before .before .before .before .if5 .left) _ (c .before .before .before .before .before .before .before .before .before .body-part .ensures) _ _ (c .before .before .before .before .before .before .before .look3 .ensures) (c .before .before .before .before .if6 .left) (c .before .before .before .before .before .before .before .before .before .before .before .before .before .before .before .before .before .before .before .before .before .before .before .before .before .before .row-slot .result) _ _ (c .before .before .before .before .before .before .before .before .before .before .before .before .before .before .before .before .before .before .before .before .before .before .before .before .before .before .before .key .ensures) (c .before .before .keep .ensures)
+search-returns-7 t c =
+    let at-if6 = c .before .before .before .before in
+    let at-look3 = at-if6 .before .before .before in
+    let at-body-part = at-look3 .before .before in
+    let at-if5 = at-body-part .before in
+    let at-look2 = at-if5 .before .before .before in
+    let at-second-part = at-look2 .before .before in
+    let at-if4 = at-second-part .before in
+    let at-look = at-if4 .before .before .before in
+    let at-first-part = at-look .before .before in
+    let at-expr-kind = at-first-part .before in
+    let at-row-slot = at-expr-kind .before .before .before .before in
+    let at-key = at-row-slot .before in
+    let at-if2 = at-key .before in
+    let at-expr-loose = at-if2 .before .before in
+    let start = at-expr-loose .before .before .before .before .before in
+    in-none _ _ _ _ _ _ (start .args .i) (start .pre .1) _ (at-expr-loose .expr-loose .ensures .0) (at-if2 .if2 .left) _
+    (at-expr-kind .expr-kind .ensures .0) _ (at-first-part .first-part .ensures) _ _ (at-look .look .ensures) (at-if4 .if4 .left) _
+    (at-second-part .second-part .ensures) _ _ (at-look2 .look2 .ensures) (at-if5 .if5 .left) _ (at-body-part .body-part .ensures) _ _
+    (at-look3 .look3 .ensures) (at-if6 .if6 .left) (at-row-slot .row-slot .result) _ _ (at-key .key .ensures) (c .before .before .keep .ensures)
 
 pub +look+search-spec : {M : Type 1} → statement M
 +look+search-spec =
@@ -162,7 +296,7 @@ pub +look+search-spec : {M : Type 1} → statement M
     (look-returns-2 t))
     λ t. search-lts.spec (search-cs t) (search-at t)
     search′.Post
-    (search-expr-word-requires t)
+    (search-expr-loose-requires t)
     (search-returns t)
     (search-add-if2 t)
     (search-returns-2 t)
@@ -171,7 +305,7 @@ pub +look+search-spec : {M : Type 1} → statement M
     (search-held-requires t)
     (search-same-length t)
     (search-returns-3 t)
-    (search-expr-word-requires-2 t)
+    (search-expr-kind-requires t)
     (search-first-part-requires t)
     (search-look-requires t)
     (search-same-length-2 t)

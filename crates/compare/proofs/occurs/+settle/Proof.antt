@@ -1,6 +1,6 @@
 use native.Mathlib.Omega.{arith}
 use mathlib.Core.Path.{sym}
-use Prim.Native.Nat.{ℕ, _-_, _*_, _<_, _≤_}
+use Prim.Native.Nat.{ℕ, _-_, _<_}
 use borrow.Fn.Kinds.{In}
 use borrow.Fn.PlainCycle.{Measures, is, falls, and}
 use Rattle.compare.proofs.occurs.settle.Reads as settle
@@ -23,35 +23,35 @@ settle-below t = and 3 settle-kinds.ps (falls 3 settle-kinds.ps _<_ μ-settle t)
 abbrev settle-cs : ℕ → settle-lts.Claims
 settle-cs t = (try-row-reads.Asked, try-row-reads.Learnt, settle-below t, settle.Post, search-all-reads.Asked, search-all-reads.Learnt)
 
--- src/occurs.rt:164:9
 settle-try-row-requires : (t : ℕ) → settle-lts.Need-try-row-requires (settle-cs t) (settle-at t) settle.Post
-settle-try-row-requires t c κs = (c .before .before .before .pre .1 .0, c .before .before .before .pre .1 .1)
+settle-try-row-requires t c κs =
+    let start = c .before .before .before in
+    (start .pre .1 .0, start .pre .1 .1)
 
--- src/occurs.rt:166:9
 settle-returns : (t : ℕ) → settle-lts.Need-returns (settle-cs t) (settle-at t) settle.Post
 settle-returns t c = sym (c .before .before .try-row .ensures .no (c .if1 .taken))
 
--- src/occurs.rt:169:9
 settle-returns-2 : (t : ℕ) → settle-lts.Need-returns-2 (settle-cs t) (settle-at t) settle.Post
-settle-returns-2 t c = sym (c .before .before .before .before .try-row .ensures .yes (c .if2 .taken))
+settle-returns-2 t c =
+    let at-try-row = c .before .before .before .before in
+    sym (at-try-row .try-row .ensures .yes (c .if2 .taken))
 
--- src/occurs.rt:172:53
 settle-mul-settle : (t : ℕ) → settle-lts.Need-mul-settle (settle-cs t) (settle-at t) settle.Post
 settle-mul-settle t c = omega arith
 
--- src/occurs.rt:172:9
 settle-settle-requires : (t : ℕ) → settle-lts.Need-settle-requires (settle-cs t) (settle-at t) settle.Post
-settle-settle-requires t c κs = (omega (arith, c .before .before .before .before .before .before .before .before .before .pre .0, c .before .before .before .before .before .before .before .before .before .pre .1 .2), (c .before .before .before .before .before .before .before .before .before .pre .1 .0, c .before .before .before .before .before .before .before .before .before .pre .1 .1, omega (arith, c .before .before .before .before .before .before .before .before .before .pre .1 .2)))
+settle-settle-requires t c κs =
+    let start = c .before .before .before .before .before .before .before .before .before in
+    (omega (arith, start .pre .0, start .pre .1 .2), (start .pre .1 .0, start .pre .1 .1, omega (arith, start .pre .1 .2)))
 
--- src/occurs.rt:172:9
 settle-returns-3 : (t : ℕ) → settle-lts.Need-returns-3 (settle-cs t) (settle-at t) settle.Post
 settle-returns-3 t c = c .settle .ensures
 
--- src/occurs.rt:174:5
 settle-search-all-requires : (t : ℕ) → settle-lts.Need-search-all-requires (settle-cs t) (settle-at t) settle.Post
-settle-search-all-requires t c κs = (c .before .before .before .before .before .before .before .before .before .pre .1 .0, c .before .before .before .before .before .before .before .before .before .pre .1 .1)
+settle-search-all-requires t c κs =
+    let start = c .before .before .before .before .before .before .before .before .before in
+    (start .pre .1 .0, start .pre .1 .1)
 
--- src/occurs.rt:152:1
 settle-returns-4 : (t : ℕ) → settle-lts.Need-returns-4 (settle-cs t) (settle-at t) settle.Post
 settle-returns-4 t c = c .search-all .ensures
 

@@ -4,15 +4,14 @@ use Rattle.compare.specs.Asked.{Absent}
 use Rattle.compare.proofs.SeenLaws.{holds-none}
 use Rattle.compare.proofs.occurs.search_all.Statement.{statement}
 use Rattle.compare.proofs.occurs.search_all.Tie as tie
-use Rattle.compare.proofs.occurs.search_all.Reads as reads
-use Rattle.compare.proofs.occurs.search_all.Lts as lts
-use Rattle.compare.proofs.occurs.search.Reads as search-reads
 
 slice-aggregate-search : tie.Need-slice-aggregate-search
 slice-aggregate-search c = search needs
 
 search-requires : tie.Need-search-requires
-search-requires c κs = record { ready = c .before .before .before .before .pre .0; row = c .before .before .before .before .pre .1; holds = holds-none (Absent (over (c .before .before .before .before .args .bytes .now) (c .before .before .before .before .args .names .now) (c .before .before .before .before .args .words .now))) 65536 }
+search-requires c κs =
+    let start = c .before .before .before .before in
+    record { ready = start .pre .0; row = start .pre .1; holds = holds-none (Absent (over (start .args .bytes .now) (start .args .names .now) (start .args .words .now))) 65536 }
 
 returns : tie.Need-returns
 returns c = c .before .search .ensures .answer

@@ -3,29 +3,26 @@ use borrow.Author.Tests.{ne-eqb, eq-eqb}
 use Rattle.compare.specs.Parts.{secondPart}
 use Rattle.compare.proofs.parts.second_part.Statement.{statement}
 use Rattle.compare.proofs.parts.second_part.Tie as tie
-use Rattle.compare.proofs.parts.second_part.Reads as reads
-use Rattle.compare.proofs.parts.second_part.Lts as lts
-use Rattle.pool.proofs.tables.expr_word.Reads as expr-word-reads
 
-expr-word-requires : tie.Need-expr-word-requires
-expr-word-requires c κs = search needs
+app-argument-requires : tie.Need-app-argument-requires
+app-argument-requires c κs = search needs
 
 add-result : tie.Need-add-result
 add-result c = search needs
 
 returns : tie.Need-returns
 unfolding secondPart
-returns c = rw (eq-eqb _ _ (c .before .if1 .taken), c .expr-word .ensures .0)
+returns c = rw (eq-eqb _ _ (c .before .if1 .taken), c .app-argument .ensures .0)
 
-expr-word-requires-2 : tie.Need-expr-word-requires-2
-expr-word-requires-2 c κs = search needs
+let-value-requires : tie.Need-let-value-requires
+let-value-requires c κs = search needs
 
 add-result-2 : tie.Need-add-result-2
 add-result-2 c = search needs
 
 returns-2 : tie.Need-returns-2
 unfolding secondPart
-returns-2 c = rw (ne-eqb _ _ (c .before .before .if1 .left), eq-eqb _ _ (c .before .if2 .taken), c .expr-word2 .ensures .0)
+returns-2 c = rw (ne-eqb _ _ (c .before .before .if1 .left), eq-eqb _ _ (c .before .if2 .taken), c .let-value .ensures .0)
 
 returns-3 : tie.Need-returns-3
 unfolding secondPart
@@ -35,10 +32,10 @@ pub second-part-spec : {M : Type 1} → statement M
 second-part-spec =
     tie.close
     (tie.spec
-    expr-word-requires
+    app-argument-requires
     add-result
     returns
-    expr-word-requires-2
+    let-value-requires
     add-result-2
     returns-2
     returns-3)

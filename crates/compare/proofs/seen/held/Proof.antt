@@ -1,17 +1,15 @@
 use borrow.Author.Needs.{needs}
-use borrow.Author.Tests.{le-ltb, lt-ltb, ne-eqb}
-use mathlib.Core.Bool.{Bool, true, false, _&&_}
+use borrow.Author.Tests.{lt-ltb, ne-eqb}
+use mathlib.Core.Bool.{false, _&&_}
 use mathlib.Core.List.{List}
-use mathlib.Core.Path.{_≡_, refl, sym, ap, _∙_}
-use Prim.Native.Nat.{ℕ, _<_, _≤_}
+use mathlib.Core.Path.{_≡_, sym, ap}
+use Prim.Native.Nat.{ℕ, _≤_}
 use native.Mathlib.Omega.{arith}
 use lib.Dec.{ltb, eqb}
 use lib.ListN.{getD, length, List·getD-eq-default}
 use Rattle.compare.specs.Seen.{isHeld}
 use Rattle.compare.proofs.seen.held.Statement.{statement}
 use Rattle.compare.proofs.seen.held.Tie as tie
-use Rattle.compare.proofs.seen.held.Reads as reads
-use Rattle.compare.proofs.seen.held.Lts as lts
 
 none : (l : List ℕ) (s k : ℕ) → k ≡ 0 → false ≡ isHeld l s k
 none l s k e = sym (ap (λ (x : ℕ). ltb 0 x && eqb (getD l s 0) x) e)
@@ -28,7 +26,9 @@ returns : tie.Need-returns
 returns c = none (c .before .args .seen .now) (c .before .args .slot) (c .before .args .k) (c .if1 .taken)
 
 returns-2 : tie.Need-returns-2
-returns-2 c = past (c .before .before .args .seen .now) (c .before .before .args .slot) (c .before .before .args .k) (c .before .if1 .left) (c .if2 .taken)
+returns-2 c =
+    let start = c .before .before in
+    past (start .args .seen .now) (start .args .slot) (start .args .k) (c .before .if1 .left) (c .if2 .taken)
 
 mul-result : tie.Need-mul-result
 mul-result c = search needs
@@ -37,7 +37,9 @@ shared-slice-read-result : tie.Need-shared-slice-read-result
 shared-slice-read-result c = search needs
 
 returns-3 : tie.Need-returns-3
-returns-3 c = there (c .before .before .before .args .seen .now) (c .before .before .before .args .slot) (c .before .before .before .args .k) (c .before .before .if1 .left)
+returns-3 c =
+    let start = c .before .before .before in
+    there (start .args .seen .now) (start .args .slot) (start .args .k) (c .before .before .if1 .left)
 
 pub held-spec : {M : Type 1} → statement M
 held-spec = tie.close (tie.spec returns returns-2 mul-result shared-slice-read-result returns-3)

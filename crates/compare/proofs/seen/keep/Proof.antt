@@ -3,8 +3,6 @@ use mathlib.Core.Path.{sym}
 use lib.Seq.{set-out}
 use Rattle.compare.proofs.seen.keep.Statement.{statement}
 use Rattle.compare.proofs.seen.keep.Tie as tie
-use Rattle.compare.proofs.seen.keep.Reads as reads
-use Rattle.compare.proofs.seen.keep.Lts as lts
 
 mul-seen : tie.Need-mul-seen
 mul-seen c = search needs

@@ -3,8 +3,6 @@ use borrow.Author.Tests.{le-ltb, lt-ltb}
 use Rattle.compare.specs.Seen.{packed}
 use Rattle.compare.proofs.seen.key.Statement.{statement}
 use Rattle.compare.proofs.seen.key.Tie as tie
-use Rattle.compare.proofs.seen.key.Reads as reads
-use Rattle.compare.proofs.seen.key.Lts as lts
 
 returns : tie.Need-returns
 unfolding packed

@@ -1,11 +1,7 @@
-use borrow.Author.Needs.{needs}
 use borrow.Author.Tests.{eq-eqb, ne-eqb}
 use native.Mathlib.Omega.{arith}
-use mathlib.Core.Path.{sym}
 use Rattle.compare.proofs.trees.beside.Statement.{statement}
 use Rattle.compare.proofs.trees.beside.Tie as tie
-use Rattle.compare.proofs.trees.beside.Reads as reads
-use Rattle.compare.proofs.trees.beside.Lts as lts
 
 returns : tie.Need-returns
 returns c = (rw (eq-eqb _ _ (c .if1 .taken)), omega arith)

@@ -5,15 +5,22 @@ use Rattle.compare.specs.Equal.{EqualTrees}
 use Rattle.compare.proofs.SeenLaws.{holds-none}
 use Rattle.compare.proofs.trees.compare_all.Statement.{statement}
 use Rattle.compare.proofs.trees.compare_all.Tie as tie
-use Rattle.compare.proofs.trees.compare_all.Reads as reads
-use Rattle.compare.proofs.trees.compare_all.Lts as lts
-use Rattle.compare.proofs.trees.tree.Reads as tree-reads
 
 slice-aggregate-tree : tie.Need-slice-aggregate-tree
 slice-aggregate-tree c = search needs
 
 tree-requires : tie.Need-tree-requires
-tree-requires c κs = record { ready = c .before .before .before .before .pre .0; a-row = c .before .before .before .before .pre .1; b-row = c .before .before .before .before .pre .2; room = omega (arith, c .before .before .before .before .pre .1, c .before .before .before .before .pre .0 .of-words .small, c .before .before .before .before .pre .0 .of-words .total); holds = holds-none (EqualTrees (over (c .before .before .before .before .args .bytes .now) (c .before .before .before .before .args .names .now) (c .before .before .before .before .args .words .now)) (c .before .before .before .before .args .d)) 2048 }
+tree-requires c κs =
+    let start = c .before .before .before .before in
+    record {
+      ready = start .pre .0;
+      a-row = start .pre .1;
+      b-row = start .pre .2;
+      room = omega
+          (arith, start .pre .1, start .pre .0 .tables .of-words .small, start .pre .0 .tables .of-words .total);
+      holds = holds-none
+          (EqualTrees (over (start .args .bytes .now) (start .args .names .now) (start .args .words .now)) (start .args .d)) 2048;
+    }
 
 returns : tie.Need-returns
 returns c = c .before .tree .ensures .answer

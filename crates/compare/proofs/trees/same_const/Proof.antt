@@ -1,49 +1,69 @@
-use borrow.Author.Needs.{needs}
 use borrow.Author.Tests.{not-true, not-false}
-use native.Mathlib.Omega.{arith}
-use mathlib.Core.Path.{refl, sym}
+use mathlib.Core.Path.{refl}
 use Rattle.compare.proofs.EqualLaws.{const-names, const-lists}
 use Rattle.compare.proofs.trees.same_const.Statement.{statement}
 use Rattle.compare.proofs.trees.same_const.Tie as tie
-use Rattle.compare.proofs.trees.same_const.Reads as reads
-use Rattle.compare.proofs.trees.same_const.Lts as lts
-use Rattle.compare.proofs.levels.same_list.Reads as same-list-reads
-use Rattle.compare.proofs.names.same_name.Reads as same-name-reads
-use Rattle.pool.proofs.tables.expr_word.Reads as expr-word-reads
 
-expr-word-requires : tie.Need-expr-word-requires
-expr-word-requires c κs = (c .before .before .before .pre .ready .of-words, omega arith)
+const-name-requires : tie.Need-const-name-requires
+const-name-requires c κs = c .before .before .before .pre .ready .tables .of-words
 
-expr-word-requires-2 : tie.Need-expr-word-requires-2
-expr-word-requires-2 c κs = (c .before .before .before .before .pre .ready .of-words, omega arith)
+const-name-requires-2 : tie.Need-const-name-requires-2
+const-name-requires-2 c κs =
+    let start = c .before .before .before .before in
+    start .pre .ready .tables .of-words
 
 same-name-requires : tie.Need-same-name-requires
-same-name-requires c κs = const-names _ _ _ _ _ _ _ (c .before .before .before .before .before .pre) _ _ (c .before .expr-word .ensures .0) (c .expr-word2 .ensures .0) refl
+same-name-requires c κs =
+    let start = c .before .before .before .before .before in
+    const-names _ _ _ _ _ _ _ (start .pre) _ _ (c .before .const-name .ensures .0) (c .const-name2 .ensures .0) refl
 
 returns : tie.Need-returns
-returns c = rw (← c .before .before .before .expr-word .ensures .0, ← c .before .before .expr-word2 .ensures .0, ← c .before .same-name .ensures, not-true (c .before .same-name .result) (c .if1 .taken))
+returns c = rw (
+  ← c .before .before .before .const-name .ensures .0,
+  ← c .before .before .const-name2 .ensures .0,
+  ← c .before .same-name .ensures,
+  not-true (c .before .same-name .result) (c .if1 .taken),
+)
 
-expr-word-requires-3 : tie.Need-expr-word-requires-3
-expr-word-requires-3 c κs = (c .before .before .before .before .before .before .before .pre .ready .of-words, omega arith)
+const-list-requires : tie.Need-const-list-requires
+const-list-requires c κs =
+    let start = c .before .before .before .before .before .before .before in
+    start .pre .ready .tables .of-words
 
-expr-word-requires-4 : tie.Need-expr-word-requires-4
-expr-word-requires-4 c κs = (c .before .before .before .before .before .before .before .before .pre .ready .of-words, omega arith)
+const-list-requires-2 : tie.Need-const-list-requires-2
+const-list-requires-2 c κs =
+    let start = c .before .before .before .before .before .before .before .before in
+    start .pre .ready .tables .of-words
 
 same-list-requires : tie.Need-same-list-requires
-same-list-requires c κs = const-lists _ _ _ _ _ _ _ (c .before .before .before .before .before .before .before .before .before .pre) _ _ (c .before .expr-word3 .ensures .0) (c .expr-word4 .ensures .0) refl
+same-list-requires c κs =
+    let start = c .before .before .before .before .before .before .before .before .before in
+    const-lists _ _ _ _ _ _ _ (start .pre) _ _ (c .before .const-list .ensures .0) (c .const-list2 .ensures .0) refl
 
 returns-2 : tie.Need-returns-2
-returns-2 c = rw (← c .before .before .before .before .before .before .expr-word .ensures .0, ← c .before .before .before .before .before .expr-word2 .ensures .0, ← c .before .before .before .before .same-name .ensures, not-false (c .before .before .before .before .same-name .result) (c .before .before .before .if1 .left), ← c .before .before .expr-word3 .ensures .0, ← c .before .expr-word4 .ensures .0) (c .same-list .ensures)
+returns-2 c =
+    let at-same-name = c .before .before .before .before in
+    let at-const-name2 = at-same-name .before in
+    let at-const-name = at-const-name2 .before in
+    rw (
+      ← at-const-name .const-name .ensures .0,
+      ← at-const-name2 .const-name2 .ensures .0,
+      ← at-same-name .same-name .ensures,
+      not-false
+          (at-same-name .same-name .result) (c .before .before .before .if1 .left),
+      ← c .before .before .const-list .ensures .0,
+      ← c .before .const-list2 .ensures .0,
+    ) (c .same-list .ensures)
 
 pub same-const-spec : {M : Type 1} → statement M
 same-const-spec =
     tie.close
     (tie.spec
-    expr-word-requires
-    expr-word-requires-2
+    const-name-requires
+    const-name-requires-2
     same-name-requires
     returns
-    expr-word-requires-3
-    expr-word-requires-4
+    const-list-requires
+    const-list-requires-2
     same-list-requires
     returns-2)

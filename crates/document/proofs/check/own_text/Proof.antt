@@ -14,7 +14,8 @@ word-at-requires-2 c κs = search needs
 
 returns : tie.Need-returns
 returns c =
-    let a = c .before .before .before .before .args in
+    let start = c .before .before .before .before in
+    let a = start .args in
     (c .word-at2 .ensures .0 ∙ ap (ownText (a .rows .now) (a .r)) (sym (sym (c .before .before .word-at .ensures .0) ∙ c .before .if1 .taken)), c .word-at2 .ensures .1)
 
 returns-2 : tie.Need-returns-2

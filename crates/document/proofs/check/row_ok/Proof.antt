@@ -9,20 +9,22 @@ fields-ok-requires : tie.Need-fields-ok-requires
 fields-ok-requires c κs = search needs
 
 measures-at-requires : tie.Need-measures-at-requires
-measures-at-requires c κs = search needs
+measures-at-requires c κs = tt
 
 derived-at-requires : tie.Need-derived-at-requires
-derived-at-requires c κs = search needs
+derived-at-requires c κs = tt
 
 same-requires : tie.Need-same-requires
-same-requires c κs = search needs
+same-requires c κs = tt
 
 both-requires : tie.Need-both-requires
-both-requires c κs = search needs
+both-requires c κs = tt
 
 returns : tie.Need-returns
 returns c =
-    c .both .ensures ∙ ap₂ _&&_ (c .before .before .before .before .fields-ok .ensures) (c .before .same .ensures ∙ ap₂ same (c .before .before .before .measures-at .ensures .0) (c .before .before .derived-at .ensures))
+    let at-fields-ok = c .before .before .before .before in
+    c .both .ensures ∙ ap₂ _&&_ (at-fields-ok .fields-ok .ensures) (c .before .same .ensures
+    ∙ ap₂ same (c .before .before .before .measures-at .ensures .0) (c .before .before .derived-at .ensures))
 
 pub row-ok-spec : {M : Type 1} → statement M
 row-ok-spec =

@@ -17,8 +17,11 @@ word-at-requires-4 c κs = search needs
 returns : tie.Need-returns
 returns c =
     let word-at = c .before .before .before .word-at in
-    let word-at2 = c .before .before .word-at2 in
-    (cc (word-at .ensures .0, word-at2 .ensures .0, c .before .word-at3 .ensures .0, c .word-at4 .ensures .0), record { count = word-at .ensures .1; flat = word-at2 .ensures .1; first = c .before .word-at3 .ensures .1; has = c .word-at4 .ensures .1 })
+    let word-at2 = c .before .before .word-at2 in (
+      cc (word-at .ensures .0, word-at2 .ensures .0, c .before .word-at3 .ensures .0, c .word-at4 .ensures .0),
+      record
+          { count = word-at .ensures .1; flat = word-at2 .ensures .1; first = c .before .word-at3 .ensures .1; has = c .word-at4 .ensures .1 },
+    )
 
 pub measures-at-spec : {M : Type 1} → statement M
 measures-at-spec =

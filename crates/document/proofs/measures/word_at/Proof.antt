@@ -22,10 +22,14 @@ shared-slice-read-result : tie.Need-shared-slice-read-result
 shared-slice-read-result c = search needs
 
 cast-result : tie.Need-cast-result
-cast-result c = omega (arith, c .shared-slice-known .given (c .before .before .before .args .r * 7 + c .before .before .before .args .k))
+cast-result c =
+    let start = c .before .before .before in
+    omega (arith, c .shared-slice-known .given (start .args .r * 7 + start .args .k))
 
 returns-2 : tie.Need-returns-2
-returns-2 c = (refl, omega (arith, c .shared-slice-known .given (c .before .before .before .args .r * 7 + c .before .before .before .args .k)))
+returns-2 c =
+    let start = c .before .before .before in
+    (refl, omega (arith, c .shared-slice-known .given (start .args .r * 7 + start .args .k)))
 
 returns-3 : tie.Need-returns-3
 returns-3 c = (sym (List·getD-eq-default (c .before .before .args .rows .now) 0 (c .if2 .left)), omega arith)

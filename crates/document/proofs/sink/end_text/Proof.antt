@@ -6,16 +6,16 @@ use Rattle.document.proofs.sink.end_text.Statement.{statement}
 use Rattle.document.proofs.sink.end_text.Tie as tie
 
 less-requires : tie.Need-less-requires
-less-requires c κs = search needs
+less-requires c κs = tt
 
 low-requires : tie.Need-low-requires
-low-requires c κs = search needs
+low-requires c κs = tt
 
 low-requires-2 : tie.Need-low-requires-2
-low-requires-2 c κs = search needs
+low-requires-2 c κs = tt
 
 put-row-requires : tie.Need-put-row-requires
-put-row-requires c κs = search needs
+put-row-requires c κs = tt
 
 same-length : tie.Need-same-length
 same-length c = search needs
@@ -25,8 +25,13 @@ same-length-2 c = search needs
 
 returns : tie.Need-returns
 returns c =
-    let a = c .before .before .before .before .before .before .before .before .before .before .before .before .args in
-    c .before .before .before .before .put-row .ensures ∙ text-row (state (a .rows .now) (a .text .now) (a .s)) _ _ _ _ (c .before .before .before .before .before .before .before .before .before .less .ensures) (c .before .before .before .before .before .before .low .ensures) (c .before .before .before .before .before .low2 .ensures)
+    let at-put-row = c .before .before .before .before in
+    let at-low2 = at-put-row .before in
+    let at-low = at-low2 .before in
+    let at-less = at-low .before .before .before in
+    let start = at-less .before .before .before in
+    let a = start .args in
+    at-put-row .put-row .ensures ∙ text-row (state (a .rows .now) (a .text .now) (a .s)) _ _ _ _ (at-less .less .ensures) (at-low .low .ensures) (at-low2 .low2 .ensures)
 
 pub end-text-spec : {M : Type 1} → statement M
 end-text-spec =

@@ -4,7 +4,7 @@ use Rattle.document.proofs.sink.put_break.Statement.{statement}
 use Rattle.document.proofs.sink.put_break.Tie as tie
 
 put-row-requires : tie.Need-put-row-requires
-put-row-requires c κs = search needs
+put-row-requires c κs = tt
 
 same-length : tie.Need-same-length
 same-length c = search needs
@@ -14,7 +14,9 @@ same-length-2 c = search needs
 
 returns : tie.Need-returns
 unfolding putBreak
-returns c = c .before .before .before .before .put-row .ensures
+returns c =
+    let at-put-row = c .before .before .before .before in
+    at-put-row .put-row .ensures
 
 pub put-break-spec : {M : Type 1} → statement M
 put-break-spec = tie.close (tie.spec put-row-requires same-length same-length-2 returns)

@@ -9,14 +9,14 @@ unfolding putByte
 returns c = simp (ne-eqb _ _ (c .if1 .taken))
 
 stopped-at-requires : tie.Need-stopped-at-requires
-stopped-at-requires c κs = search needs
+stopped-at-requires c κs = tt
 
 returns-2 : tie.Need-returns-2
 unfolding putByte
 returns-2 c = rw (eq-eqb _ _ (c .before .before .if1 .left), le-ltb _ _ (c .before .if2 .taken), c .stopped-at .ensures)
 
 stopped-at-requires-2 : tie.Need-stopped-at-requires-2
-stopped-at-requires-2 c κs = search needs
+stopped-at-requires-2 c κs = tt
 
 returns-3 : tie.Need-returns-3
 unfolding putByte

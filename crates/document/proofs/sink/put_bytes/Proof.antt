@@ -22,7 +22,7 @@ shared-slice-read-put-byte : tie.Need-shared-slice-read-put-byte Inv-loop μ-loo
 shared-slice-read-put-byte c = search needs
 
 put-byte-requires : tie.Need-put-byte-requires Inv-loop μ-loop
-put-byte-requires c κs = search needs
+put-byte-requires c κs = tt
 
 add-i : tie.Need-add-i Inv-loop μ-loop
 add-i c = search needs
@@ -32,9 +32,18 @@ loop-less c = search needs
 
 loop-again : tie.Need-loop-again Inv-loop μ-loop
 loop-again c =
-    let a = c .before .before .before .before .before .before .before .before .before .before .before .before .before .args in
-    let l = c .before .before .before .before .before .before .before .before .before .loop in
-    (search needs, search needs, search needs, ap (putBytes (drop (l .i + 1) (a .bytes .now))) (c .before .before .before .before .put-byte .ensures) ∙ bytes-step (state (l .rows) (l .text) (l .o)) (a .bytes .now) (l .i) (c .before .before .before .before .before .before .before .before .loop-test .taken) ∙ l .inv .3)
+    let at-put-byte = c .before .before .before .before in
+    let at-loop-test = at-put-byte .before .before .before .before in
+    let at-loop = at-loop-test .before in
+    let start = at-loop .before .before .before .before in
+    let a = start .args in
+    let l = at-loop .loop in (
+      search needs,
+      search needs,
+      search needs,
+      ap (putBytes (drop (l .i + 1) (a .bytes .now))) (at-put-byte .put-byte .ensures)
+          ∙ bytes-step (state (l .rows) (l .text) (l .o)) (a .bytes .now) (l .i) (at-loop-test .loop-test .taken) ∙ l .inv .3,
+    )
 
 same-length : tie.Need-same-length Inv-loop μ-loop
 same-length c = search needs
@@ -44,8 +53,9 @@ same-length-2 c = search needs
 
 returns : tie.Need-returns Inv-loop μ-loop
 returns c =
+    let start = c .before .before .before .before .before in
     let l = c .before .loop in
-    sym (bytes-end (state (l .rows) (l .text) (l .o)) (c .before .before .before .before .before .args .bytes .now) (l .i) (c .loop-test .left)) ∙ l .inv .3
+    sym (bytes-end (state (l .rows) (l .text) (l .o)) (start .args .bytes .now) (l .i) (c .loop-test .left)) ∙ l .inv .3
 
 pub put-bytes-spec : {M : Type 1} → statement M
 put-bytes-spec =

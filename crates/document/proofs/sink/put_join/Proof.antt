@@ -9,22 +9,22 @@ use Rattle.document.proofs.sink.put_join.Statement.{statement}
 use Rattle.document.proofs.sink.put_join.Tie as tie
 
 left-of-requires : tie.Need-left-of-requires
-left-of-requires c κs = search needs
+left-of-requires c κs = tt
 
 measures-at-requires : tie.Need-measures-at-requires
-measures-at-requires c κs = search needs
+measures-at-requires c κs = tt
 
 less-requires : tie.Need-less-requires
-less-requires c κs = search needs
+less-requires c κs = tt
 
 measures-at-requires-2 : tie.Need-measures-at-requires-2
-measures-at-requires-2 c κs = search needs
+measures-at-requires-2 c κs = tt
 
 joined-requires : tie.Need-joined-requires
 joined-requires c κs = search needs
 
 put-row-requires : tie.Need-put-row-requires
-put-row-requires c κs = search needs
+put-row-requires c κs = tt
 
 same-length : tie.Need-same-length
 same-length c = search needs
@@ -35,11 +35,19 @@ same-length-2 c = search needs
 returns : tie.Need-returns
 unfolding putJoin
 returns c =
-    let a = c .before .before .before .before .before .before .before .before .before .before .before .before .before .before .before .before .args in
-    c .before .before .before .before .put-row .ensures
+    let at-put-row = c .before .before .before .before in
+    let at-joined = at-put-row .before .before .before in
+    let at-measures-at2 = at-joined .before in
+    let at-less = at-measures-at2 .before in
+    let at-measures-at = at-less .before .before in
+    let at-left-of = at-measures-at .before in
+    let start = at-left-of .before .before .before .before in
+    let a = start .args in
+    at-put-row .put-row .ensures
     ∙ ap (λ (m : Measures). putRow 1 0 0 m (state (a .rows .now) (a .text .now) (a .s)))
-    (c .before .before .before .before .before .before .before .joined .ensures
-    ∙ ap₂ joined (c .before .before .before .before .before .before .before .before .before .before .before .measures-at .ensures .0 ∙ ap (measuresAt (a .rows .now)) (c .before .before .before .before .before .before .before .before .before .before .before .before .left-of .ensures)) (c .before .before .before .before .before .before .before .before .measures-at2 .ensures .0 ∙ ap (measuresAt (a .rows .now)) (c .before .before .before .before .before .before .before .before .before .less .ensures)))
+    (at-joined .joined .ensures
+    ∙ ap₂ joined (at-measures-at .measures-at .ensures .0 ∙ ap (measuresAt (a .rows .now)) (at-left-of .left-of .ensures))
+    (at-measures-at2 .measures-at2 .ensures .0 ∙ ap (measuresAt (a .rows .now)) (at-less .less .ensures)))
 
 pub put-join-spec : {M : Type 1} → statement M
 put-join-spec =

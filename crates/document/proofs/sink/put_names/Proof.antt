@@ -19,7 +19,10 @@ same-length-2 c = search needs
 
 returns-2 : tie.Need-returns-2
 unfolding putNames
-returns-2 c = rw (lt-leb _ _ (c .before .before .before .before .before .before .before .if1 .left)) (c .before .before .before .before .refuse .ensures)
+returns-2 c =
+    let at-refuse = c .before .before .before .before in
+    let at-if1 = at-refuse .before .before .before in
+    rw (lt-leb _ _ (at-if1 .if1 .left)) (at-refuse .refuse .ensures)
 
 pub put-names-spec : {M : Type 1} → statement M
 put-names-spec = tie.close (tie.spec returns refuse-requires same-length same-length-2 returns-2)

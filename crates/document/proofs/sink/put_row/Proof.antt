@@ -12,7 +12,7 @@ unfolding putRow
 returns c = simp (ne-eqb _ _ (c .if1 .taken))
 
 stopped-at-requires : tie.Need-stopped-at-requires
-stopped-at-requires c κs = search needs
+stopped-at-requires c κs = tt
 
 returns-2 : tie.Need-returns-2
 unfolding putRow
@@ -25,23 +25,23 @@ add-if3 : tie.Need-add-if3
 add-if3 c = search needs
 
 stopped-at-requires-2 : tie.Need-stopped-at-requires-2
-stopped-at-requires-2 c κs = search needs
+stopped-at-requires-2 c κs = tt
 
 returns-3 : tie.Need-returns-3
 unfolding putRow
 returns-3 c = rw (eq-eqb _ _ (c .before .before .before .if1 .left), lt-ltb _ _ (c .before .before .if2 .left), lt-leb _ _ (c .before .if3 .taken), c .stopped-at2 .ensures)
 
 low-requires : tie.Need-low-requires
-low-requires c κs = search needs
+low-requires c κs = tt
 
 low-requires-2 : tie.Need-low-requires-2
-low-requires-2 c κs = search needs
+low-requires-2 c κs = tt
 
 low-requires-3 : tie.Need-low-requires-3
-low-requires-3 c κs = search needs
+low-requires-3 c κs = tt
 
 low-requires-4 : tie.Need-low-requires-4
-low-requires-4 c κs = search needs
+low-requires-4 c κs = tt
 
 mul-rows : tie.Need-mul-rows
 mul-rows c = search needs
@@ -111,7 +111,11 @@ same-length c = simp length-set
 
 returns-4 : tie.Need-returns-4
 returns-4 c =
-    row-stored _ _ _ _ _ _ _ (c .before .before .before .before .before .before .if1 .left) (c .before .before .before .before .before .if2 .left) (c .before .before .before .before .if3 .left) _ _ _ _ (c .before .before .before .low .ensures) (c .before .before .low2 .ensures) (c .before .low3 .ensures) (c .low4 .ensures)
+    let at-if3 = c .before .before .before .before in
+    let at-if2 = at-if3 .before in
+    let at-if1 = at-if2 .before in
+    row-stored _ _ _ _ _ _ _ (at-if1 .if1 .left) (at-if2 .if2 .left) (at-if3 .if3 .left) _ _ _ _ (c .before .before .before .low .ensures)
+    (c .before .before .low2 .ensures) (c .before .low3 .ensures) (c .low4 .ensures)
 
 pub put-row-spec : {M : Type 1} → statement M
 put-row-spec =

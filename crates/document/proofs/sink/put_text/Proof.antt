@@ -5,10 +5,10 @@ use Rattle.document.proofs.sink.put_text.Statement.{statement}
 use Rattle.document.proofs.sink.put_text.Tie as tie
 
 put-bytes-requires : tie.Need-put-bytes-requires
-put-bytes-requires c κs = search needs
+put-bytes-requires c κs = tt
 
 end-text-requires : tie.Need-end-text-requires
-end-text-requires c κs = search needs
+end-text-requires c κs = tt
 
 same-length : tie.Need-same-length
 same-length c = search needs
@@ -18,7 +18,11 @@ same-length-2 c = search needs
 
 returns : tie.Need-returns
 unfolding putText
-returns c = c .before .before .before .before .end-text .ensures ∙ ap (endText (c .before .before .before .before .before .before .before .before .before .before .before .before .before .before .before .before .before .args .s .text)) (c .before .before .before .before .before .before .before .before .before .before .before .put-bytes .ensures)
+returns c =
+    let at-end-text = c .before .before .before .before in
+    let at-put-bytes = at-end-text .before .before .before .before .before .before .before in
+    let start = at-put-bytes .before .before .before .before .before .before in
+    at-end-text .end-text .ensures ∙ ap (endText (start .args .s .text)) (at-put-bytes .put-bytes .ensures)
 
 pub put-text-spec : {M : Type 1} → statement M
 put-text-spec =

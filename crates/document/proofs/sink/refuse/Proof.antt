@@ -1,6 +1,5 @@
 use borrow.Author.Tests.{ne-eqb, eq-eqb}
 use Rattle.document.specs.Sink.{refuse}
-use borrow.Author.Needs.{needs}
 use Rattle.document.proofs.sink.refuse.Statement.{statement}
 use Rattle.document.proofs.sink.refuse.Tie as tie
 
@@ -9,7 +8,7 @@ unfolding refuse
 returns c = simp (ne-eqb _ _ (c .if1 .taken))
 
 stopped-at-requires : tie.Need-stopped-at-requires
-stopped-at-requires c κs = search needs
+stopped-at-requires c κs = tt
 
 returns-2 : tie.Need-returns-2
 unfolding refuse

@@ -21,8 +21,10 @@ same-length c = search needs
 
 returns : tie.Need-returns
 returns c =
-    let a = c .before .before .before .before .before .before .before .args in
-    part-back (a .area .now) (a .position) (a .bytes .now) (c .before .before .copy .last .0) (c .before .before .copy .ensures)
+    let at-copy = c .before .before in
+    let start = at-copy .before .before .before .before .before in
+    let a = start .args in
+    part-back (a .area .now) (a .position) (a .bytes .now) (at-copy .copy .last .0) (at-copy .copy .ensures)
 
 returns-2 : tie.Need-returns-2
 returns-2 c = sym (paint-past _ _ _ (c .if1 .left))

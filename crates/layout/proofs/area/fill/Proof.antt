@@ -37,7 +37,10 @@ same-length : tie.Need-same-length Inv-loop μ-loop
 same-length c = omega arith
 
 returns : tie.Need-returns Inv-loop μ-loop
-returns c = fill-whole _ _ (c .before .before .before .args .n) (c .before .before .before .args .b) (c .before .before .loop .i) (c .before .before .loop .inv .0) (ltb-false _ _ (c .if1 .left))
+returns c =
+    let at-loop = c .before .before in
+    let start = at-loop .before in
+    fill-whole _ _ (start .args .n) (start .args .b) (at-loop .loop .i) (at-loop .loop .inv .0) (ltb-false _ _ (c .if1 .left))
 
 same-length-2 : tie.Need-same-length-2 Inv-loop μ-loop
 same-length-2 c = omega arith

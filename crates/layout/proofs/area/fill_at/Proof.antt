@@ -22,8 +22,10 @@ same-length c = search needs
 
 returns : tie.Need-returns
 returns c =
-    let a = c .before .before .before .before .before .before .args in
-    part-back (a .area .now) (a .position) (replicate (a .n) (a .b)) (c .before .before .fill .last .0) (c .before .before .fill .ensures)
+    let at-fill = c .before .before in
+    let start = at-fill .before .before .before .before in
+    let a = start .args in
+    part-back (a .area .now) (a .position) (replicate (a .n) (a .b)) (at-fill .fill .last .0) (at-fill .fill .ensures)
 
 returns-2 : tie.Need-returns-2
 returns-2 c = sym (paint-past _ _ _ (c .if1 .left))

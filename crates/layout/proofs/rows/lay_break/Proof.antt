@@ -14,7 +14,9 @@ same-length c = search needs
 
 returns : tie.Need-returns
 returns c =
-    place-flat _ _ _ _ _ _ _ _ _ (c .before .before .before .before .before .if1 .taken) (c .before .before .before .before .word-at .ensures .0) (c .before .before .blank .ensures)
+    let at-word-at = c .before .before .before .before in
+    let at-if1 = at-word-at .before in
+    place-flat _ _ _ _ _ _ _ _ _ (at-if1 .if1 .taken) (at-word-at .word-at .ensures .0) (c .before .before .blank .ensures)
 
 newline-requires : tie.Need-newline-requires
 newline-requires c κs = search needs
@@ -24,7 +26,8 @@ same-length-2 c = search needs
 
 returns-2 : tie.Need-returns-2
 returns-2 c =
-    place-broken _ _ _ _ _ _ _ _ (c .before .before .before .before .if1 .left) (c .before .before .newline .ensures)
+    let at-if1 = c .before .before .before .before in
+    place-broken _ _ _ _ _ _ _ _ (at-if1 .if1 .left) (c .before .before .newline .ensures)
 
 pub lay-break-spec : {M : Type 1} → statement M
 lay-break-spec =

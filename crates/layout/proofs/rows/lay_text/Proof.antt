@@ -29,7 +29,9 @@ same-length c = search needs
 
 returns : tie.Need-returns
 returns c =
-    text-part _ _ _ _ _ _ _ _ _ _ (c .before .before .before .before .before .before .word-at .ensures .0) (c .before .before .before .before .before .word-at2 .ensures .0) (c .before .before .text .ensures)
+    let at-word-at2 = c .before .before .before .before .before in
+    let at-word-at = at-word-at2 .before in
+    text-part _ _ _ _ _ _ _ _ _ _ (at-word-at .word-at .ensures .0) (at-word-at2 .word-at2 .ensures .0) (c .before .before .text .ensures)
 
 pub lay-text-spec : {M : Type 1} → statement M
 lay-text-spec =

@@ -20,7 +20,10 @@ through-requires c κs = search needs
 
 returns : tie.Need-returns
 returns c =
-    (c .through .ensures .0 ∙ ap₂ (λ (x y : ℕ). through x y (c .before .before .before .before .args .next)) (c .before .before .word-at .ensures .0) (c .before .word-at2 .ensures .0), omega (arith, c .through .ensures .1, c .before .word-at2 .ensures .1))
+    let start = c .before .before .before .before in (
+      c .through .ensures .0 ∙ ap₂ (λ (x y : ℕ). through x y (start .args .next)) (c .before .before .word-at .ensures .0) (c .before .word-at2 .ensures .0),
+      omega (arith, c .through .ensures .1, c .before .word-at2 .ensures .1),
+    )
 
 pub next-of-left-spec : {M : Type 1} → statement M
 next-of-left-spec = tie.close (tie.spec sub-right word-at-requires word-at-requires-2 through-requires returns)

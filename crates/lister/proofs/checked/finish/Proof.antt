@@ -16,10 +16,17 @@ same-length-2 : tie.Need-same-length-2
 same-length-2 c = search needs
 
 returns : tie.Need-returns
-returns c = stop-finishes (c .before .before .before .before .before .before .before .before .before .before .before .before .before .args .s) (c .before .before .before .before .before .before .before .before .before .before .before .before .before .args .width) (record { rows = c .before .before .before .before .before .before .before .before .before .before .before .before .before .args .rows .now; text = c .before .before .before .before .before .before .before .before .before .before .before .before .before .args .text .now; listing = c .before .before .before .before .before .before .before .before .before .before .before .before .before .args .listing .now }) _ (c .before .before .before .before .before .before .before .before .if1 .taken) _ _ (c .before .before .before .before .before .clear .ensures .0) (c .before .before .before .before .before .clear .ensures .1) (c .stop-answer .ensures)
+returns c =
+    let at-clear = c .before .before .before .before .before in
+    let at-if1 = at-clear .before .before .before in
+    let start = at-if1 .before .before .before .before .before in
+    stop-finishes (start .args .s) (start .args .width) (record { rows = start .args .rows .now; text = start .args .text .now; listing = start .args .listing .now }) _
+    (at-if1 .if1 .taken) _ _ (at-clear .clear .ensures .0) (at-clear .clear .ensures .1) (c .stop-answer .ensures)
 
 layout-accepted-requires : tie.Need-layout-accepted-requires
-layout-accepted-requires c κs = (c .before .before .before .before .before .before .before .before .pre .0 (c .before .before .before .if1 .left), c .before .before .before .before .before .before .before .before .pre .1)
+layout-accepted-requires c κs =
+    let start = c .before .before .before .before .before .before .before .before in
+    (start .pre .0 (c .before .before .before .if1 .left), start .pre .1)
 
 of-laid-requires : tie.Need-of-laid-requires
 of-laid-requires c κs = search needs
@@ -34,7 +41,11 @@ same-length-5 : tie.Need-same-length-5
 same-length-5 c = search needs
 
 returns-2 : tie.Need-returns-2
-returns-2 c = layout-finishes (c .before .before .before .before .before .before .before .before .before .before .before .before .args .s) (c .before .before .before .before .before .before .before .before .before .before .before .before .args .width) (record { rows = c .before .before .before .before .before .before .before .before .before .before .before .before .args .rows .now; text = c .before .before .before .before .before .before .before .before .before .before .before .before .args .text .now; listing = c .before .before .before .before .before .before .before .before .before .before .before .before .args .listing .now }) _ (c .before .before .before .before .before .before .before .if1 .left) _ _ (c .before .before .before .layout-accepted .ensures) (c .of-laid .ensures)
+returns-2 c =
+    let at-if1 = c .before .before .before .before .before .before .before in
+    let start = at-if1 .before .before .before .before .before in
+    layout-finishes (start .args .s) (start .args .width) (record { rows = start .args .rows .now; text = start .args .text .now; listing = start .args .listing .now }) _
+    (at-if1 .if1 .left) _ _ (c .before .before .before .layout-accepted .ensures) (c .of-laid .ensures)
 
 pub finish-spec : {M : Type 1} → statement M
 finish-spec =

@@ -17,7 +17,9 @@ both-requires c κs = search needs
 
 returns : tie.Need-returns
 unfolding hasString
-returns c = rw (c .both .ensures, c .before .before .is-accepted .ensures, c .before .before .before .check .ensures, c .before .before .before .before .tables-of .ensures .of-names .strings)
+returns c =
+    let at-tables-of = c .before .before .before .before in
+    rw (c .both .ensures, c .before .before .is-accepted .ensures, c .before .before .before .check .ensures, at-tables-of .tables-of .ensures .of-names .strings)
 
 pub has-string-spec : {M : Type 1} → statement M
 has-string-spec =

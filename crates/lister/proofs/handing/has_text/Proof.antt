@@ -1,7 +1,7 @@
-use mathlib.Core.Path.{sym, ap, _∙_}
+use mathlib.Core.Path.{sym, _∙_}
 use borrow.Author.Tests.{not-true, not-false}
 use lib.ListN.{length}
-use Rattle.document.proofs.Booleans.{first-false, first-true}
+use Rattle.basics.proofs.Booleans.{first-false, first-true}
 use Rattle.document.proofs.Faults.{counts}
 use Rattle.lister.specs.Handing.{hasText}
 use borrow.Author.Needs.{needs}
@@ -16,7 +16,9 @@ unfolding hasText
 returns c = first-false _ _ (sym (c .before .counts-ok .ensures) ∙ not-true _ (c .if1 .taken))
 
 find-fault-requires : tie.Need-find-fault-requires
-find-fault-requires c κs = counts (length (c .before .before .before .before .args .rows .now)) (c .before .before .before .before .args .count) (length (c .before .before .before .before .args .text .now)) (c .before .before .before .before .args .total) (sym (c .before .counts-ok .ensures) ∙ not-false _ (c .if1 .left)) .few
+find-fault-requires c κs =
+    let start = c .before .before .before .before in
+    counts (length (start .args .rows .now)) (start .args .count) (length (start .args .text .now)) (start .args .total) (sym (c .before .counts-ok .ensures) ∙ not-false _ (c .if1 .left)) .few
 
 word-at-requires : tie.Need-word-at-requires
 word-at-requires c κs = search needs
@@ -29,7 +31,11 @@ both-requires-2 c κs = search needs
 
 returns-2 : tie.Need-returns-2
 unfolding hasText
-returns-2 c = first-true _ _ _ (sym (c .before .before .before .before .before .counts-ok .ensures) ∙ not-false _ (c .before .before .before .before .if1 .left)) (rw (c .both2 .ensures, c .before .before .before .find-fault .ensures, c .before .both .ensures, c .before .before .word-at .ensures .0))
+returns-2 c =
+    let at-if1 = c .before .before .before .before in
+    let at-counts-ok = at-if1 .before in
+    first-true _ _ _ (sym (at-counts-ok .counts-ok .ensures) ∙ not-false _ (at-if1 .if1 .left))
+    (rw (c .both2 .ensures, c .before .before .before .find-fault .ensures, c .before .both .ensures, c .before .before .word-at .ensures .0))
 
 pub has-text-spec : {M : Type 1} → statement M
 has-text-spec =

@@ -1,4 +1,4 @@
-use Rattle.pool.proofs.Scan.{part-clip}
+use Rattle.pool.proofs.Clips.{part-clip}
 use borrow.Author.Needs.{needs}
 use Rattle.lister.proofs.handing.part.Statement.{statement}
 use Rattle.lister.proofs.handing.part.Tie as tie

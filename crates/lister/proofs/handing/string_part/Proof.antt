@@ -1,5 +1,6 @@
-use mathlib.Core.Path.{sym, ap, _∙_}
+use mathlib.Core.Path.{sym, _∙_}
 use borrow.Author.Tests.{not-true, not-false}
+use Rattle.lister.specs.Handing.{stringPart}
 use borrow.Author.Needs.{needs}
 use Rattle.lister.proofs.handing.string_part.Statement.{statement}
 use Rattle.lister.proofs.handing.string_part.Tie as tie
@@ -11,13 +12,17 @@ part-requires : tie.Need-part-requires
 part-requires c κs = search needs
 
 returns : tie.Need-returns
+unfolding stringPart
 returns c = c .part .ensures ∙ rw (sym (c .before .before .has-string .ensures) ∙ not-true _ (c .before .if1 .taken))
 
 string-at-requires : tie.Need-string-at-requires
 string-at-requires c κs = search needs
 
 returns-2 : tie.Need-returns-2
-returns-2 c = c .string-at .ensures (c .before .before .before .before .before .args .words .now) ∙ rw (sym (c .before .before .has-string .ensures) ∙ not-false _ (c .before .if1 .left))
+unfolding stringPart
+returns-2 c =
+    let start = c .before .before .before .before .before in
+    c .string-at .ensures (start .args .words .now) ∙ rw (sym (c .before .before .has-string .ensures) ∙ not-false _ (c .before .if1 .left))
 
 pub string-part-spec : {M : Type 1} → statement M
 string-part-spec =

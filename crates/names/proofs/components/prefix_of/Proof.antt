@@ -2,17 +2,17 @@ use Rattle.names.proofs.Rows.{name-row, prefix-by}
 use borrow.Author.Needs.{needs}
 use Rattle.names.proofs.components.prefix_of.Statement.{statement}
 use Rattle.names.proofs.components.prefix_of.Tie as tie
-use Rattle.names.proofs.components.prefix_of.Reads as reads
-use Rattle.names.proofs.components.prefix_of.Lts as lts
-use Rattle.pool.proofs.tables.name_word.Reads as name-word-reads
 
--- src/components.rt:52:5
-name-word-requires : tie.Need-name-word-requires
-name-word-requires c κs = search needs
+name-prefix-requires : tie.Need-name-prefix-requires
+name-prefix-requires c κs = search needs
 
--- src/components.rt:48:1
 returns : tie.Need-returns
-returns c = rw (c .name-word .ensures .0) (prefix-by (c .before .before .before .before .args .bytes .now) (c .before .before .before .before .args .names .now) (c .before .before .before .before .args .words .now) (c .before .before .before .before .args .r) (name-row (c .before .before .before .before .args .bytes .now) (c .before .before .before .before .args .names .now) (c .before .before .before .before .args .words .now) (c .before .before .before .before .args .t) (c .before .before .before .before .pre .0) (c .before .before .before .before .args .r) (c .before .before .before .before .pre .1)) (c .before .before .before .before .pre .2))
+returns c =
+    let start = c .before .before .before .before in
+    rw (c .name-prefix .ensures .0)
+    (prefix-by (start .args .bytes .now) (start .args .names .now) (start .args .words .now) (start .args .r)
+    (name-row (start .args .bytes .now) (start .args .names .now) (start .args .words .now) (start .args .t) (start .pre .0) (start .args .r) (start .pre .1))
+    (start .pre .2))
 
 pub prefix-of-spec : {M : Type 1} → statement M
-prefix-of-spec = tie.close (tie.spec name-word-requires returns)
+prefix-of-spec = tie.close (tie.spec name-prefix-requires returns)

@@ -3,35 +3,25 @@ use native.Mathlib.Nat.{add-sub-cancel-left}
 use borrow.Author.Needs.{needs}
 use Rattle.names.proofs.components.read_string.Statement.{statement}
 use Rattle.names.proofs.components.read_string.Tie as tie
-use Rattle.names.proofs.components.read_string.Reads as reads
-use Rattle.names.proofs.components.read_string.Lts as lts
-use Rattle.pool.proofs.tables.string_word.Reads as string-word-reads
 
--- src/components.rt:28:9
 string-word-requires : tie.Need-string-word-requires
 string-word-requires c κs = search needs
 
--- src/components.rt:29:21
 string-word-requires-2 : tie.Need-string-word-requires-2
 string-word-requires-2 c κs = search needs
 
--- src/components.rt:29:14
 add-to : tie.Need-add-to
 add-to c = search needs
 
--- src/components.rt:30:5
 sub-result : tie.Need-sub-result
 sub-result c = search needs
 
--- src/components.rt:30:5
 part-result-start : tie.Need-part-result-start
 part-result-start c = search needs
 
--- src/components.rt:30:5
 part-result-end : tie.Need-part-result-end
 part-result-end c = search needs
 
--- src/components.rt:24:1
 returns : tie.Need-returns
 unfolding stringAt
 returns c = rw (c .before .before .string-word .ensures .0, c .before .string-word2 .ensures .0, add-sub-cancel-left)

@@ -35,43 +35,68 @@ put-name-bytes-below t =
     put-name-bytes.Pre
 
 abbrev put-name-bytes-cs : ℕ → put-name-bytes-lts.Claims
-put-name-bytes-cs t = (is-anonymous-reads.Asked, is-anonymous-reads.Learnt, prefix-of-reads.Asked, prefix-of-reads.Learnt, put-name-bytes-below t, put-name-bytes.Post, put-dot-reads.Asked, put-dot-reads.Learnt, put-component-reads.Asked, put-component-reads.Learnt)
+put-name-bytes-cs t = (
+  is-anonymous-reads.Asked,
+  is-anonymous-reads.Learnt,
+  prefix-of-reads.Asked,
+  prefix-of-reads.Learnt,
+  put-name-bytes-below t,
+  put-name-bytes.Post,
+  put-dot-reads.Asked,
+  put-dot-reads.Learnt,
+  put-component-reads.Asked,
+  put-component-reads.Learnt,
+)
 
--- src/names.rt:23:8
 put-name-bytes-is-anonymous-requires : (t : ℕ) → put-name-bytes-lts.Need-is-anonymous-requires (put-name-bytes-cs t) (put-name-bytes-at t) put-name-bytes.Post
-put-name-bytes-is-anonymous-requires t c κs = c .before .before .before .before .before .pre .1
+put-name-bytes-is-anonymous-requires t c κs =
+    let start = c .before .before .before .before .before in
+    start .pre .1
 
--- src/names.rt:24:9
 put-name-bytes-returns : (t : ℕ) → put-name-bytes-lts.Need-returns (put-name-bytes-cs t) (put-name-bytes-at t) put-name-bytes.Post
 put-name-bytes-returns t c = text-none _ _ (sym (c .before .is-anonymous .ensures) ∙ c .if1 .taken)
 
--- src/names.rt:26:9
 put-name-bytes-prefix-of-requires : (t : ℕ) → put-name-bytes-lts.Need-prefix-of-requires (put-name-bytes-cs t) (put-name-bytes-at t) put-name-bytes.Post
-put-name-bytes-prefix-of-requires t c κs = (c .before .before .before .before .before .before .before .pre .1 .0, c .before .before .before .before .before .before .before .pre .1 .1, sym (c .before .is-anonymous .ensures) ∙ c .if1 .left)
+put-name-bytes-prefix-of-requires t c κs =
+    let start = c .before .before .before .before .before .before .before in
+    (start .pre .1 .0, start .pre .1 .1, sym (c .before .is-anonymous .ensures) ∙ c .if1 .left)
 
--- src/names.rt:27:9
 put-name-bytes-put-name-bytes-requires : (t : ℕ) → put-name-bytes-lts.Need-put-name-bytes-requires (put-name-bytes-cs t) (put-name-bytes-at t) put-name-bytes.Post
-put-name-bytes-put-name-bytes-requires t c κs = (omega (arith, c .before .before .prefix-of .ensures .1, c .before .before .before .before .before .before .before .before .before .before .pre .0), (c .before .before .before .before .before .before .before .before .before .before .pre .1 .0, omega (arith, c .before .before .prefix-of .ensures .1, c .before .before .before .before .before .before .before .before .before .before .pre .1 .1)))
+put-name-bytes-put-name-bytes-requires t c κs =
+    let at-prefix-of = c .before .before in
+    let start = at-prefix-of .before .before .before .before .before .before .before .before in
+    (omega (arith, at-prefix-of .prefix-of .ensures .1, start .pre .0), (start .pre .1 .0, omega (arith, at-prefix-of .prefix-of .ensures .1, start .pre .1 .1)))
 
--- src/names.rt:28:9
 put-name-bytes-put-dot-requires : (t : ℕ) → put-name-bytes-lts.Need-put-dot-requires (put-name-bytes-cs t) (put-name-bytes-at t) put-name-bytes.Post
 put-name-bytes-put-dot-requires t c κs = search needs
 
--- src/names.rt:29:5
 put-name-bytes-put-component-requires : (t : ℕ) → put-name-bytes-lts.Need-put-component-requires (put-name-bytes-cs t) (put-name-bytes-at t) put-name-bytes.Post
-put-name-bytes-put-component-requires t c κs = (c .before .before .before .before .before .before .before .before .before .before .before .before .before .before .before .before .before .before .before .before .before .before .before .before .pre .1 .0, c .before .before .before .before .before .before .before .before .before .before .before .before .before .before .before .before .before .before .before .before .before .before .before .before .pre .1 .1, sym (c .before .before .before .before .before .before .before .before .before .before .before .before .before .before .before .before .before .before .is-anonymous .ensures) ∙ c .before .before .before .before .before .before .before .before .before .before .before .before .before .before .before .before .before .if1 .left)
+put-name-bytes-put-component-requires t c κs =
+    let at-if1 = c .before .before .before .before .before .before .before .before .before .before .before .before .before .before .before .before .before in
+    let at-is-anonymous = at-if1 .before in
+    let start = at-is-anonymous .before .before .before .before .before .before in
+    (start .pre .1 .0, start .pre .1 .1, sym (at-is-anonymous .is-anonymous .ensures) ∙ at-if1 .if1 .left)
 
--- src/names.rt:19:1
 put-name-bytes-same-length : (t : ℕ) → put-name-bytes-lts.Need-same-length (put-name-bytes-cs t) (put-name-bytes-at t) put-name-bytes.Post
 put-name-bytes-same-length t c = search needs
 
--- src/names.rt:19:1
 put-name-bytes-same-length-2 : (t : ℕ) → put-name-bytes-lts.Need-same-length-2 (put-name-bytes-cs t) (put-name-bytes-at t) put-name-bytes.Post
 put-name-bytes-same-length-2 t c = search needs
 
--- src/names.rt:19:1
 put-name-bytes-returns-2 : (t : ℕ) → put-name-bytes-lts.Need-returns-2 (put-name-bytes-cs t) (put-name-bytes-at t) put-name-bytes.Post
-put-name-bytes-returns-2 t c = rw (c .before .before .before .before .put-component .ensures, c .before .before .before .before .before .before .before .before .before .before .before .put-dot .ensures, c .before .before .before .before .before .before .before .before .before .before .before .before .before .before .before .before .before .before .put-name-bytes .ensures, c .before .before .before .before .before .before .before .before .before .before .before .before .before .before .before .before .before .before .before .before .before .prefix-of .ensures .0) (text-on _ _ (sym (c .before .before .before .before .before .before .before .before .before .before .before .before .before .before .before .before .before .before .before .before .before .before .before .is-anonymous .ensures) ∙ c .before .before .before .before .before .before .before .before .before .before .before .before .before .before .before .before .before .before .before .before .before .before .if1 .left))
+put-name-bytes-returns-2 t c =
+    let at-put-component = c .before .before .before .before in
+    let at-put-dot = at-put-component .before .before .before .before .before .before .before in
+    let at-put-name-bytes = at-put-dot .before .before .before .before .before .before .before in
+    let at-prefix-of = at-put-name-bytes .before .before .before in
+    let at-if1 = at-prefix-of .before in
+    let at-is-anonymous = at-if1 .before in
+    rw (
+      at-put-component .put-component .ensures,
+      at-put-dot .put-dot .ensures,
+      at-put-name-bytes .put-name-bytes .ensures,
+      at-prefix-of .prefix-of .ensures .0,
+    ) (text-on _ _ (sym (at-is-anonymous .is-anonymous .ensures) ∙ at-if1 .if1 .left))
 
 pub +put-name-bytes-spec : {M : Type 1} → statement M
 +put-name-bytes-spec = close μ-put-name-bytes λ t. put-name-bytes-lts.spec (put-name-bytes-cs t)

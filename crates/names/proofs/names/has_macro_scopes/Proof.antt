@@ -8,11 +8,6 @@ use Prim.Native.Nat.{_<_}
 use mathlib.Core.Path.{_≡_, refl, sym, ap, _∙_}
 use Rattle.names.proofs.names.has_macro_scopes.Statement.{statement}
 use Rattle.names.proofs.names.has_macro_scopes.Tie as tie
-use Rattle.names.proofs.names.has_macro_scopes.Reads as reads
-use Rattle.names.proofs.names.has_macro_scopes.Lts as lts
-use Rattle.names.proofs.components.is_hyg.Reads as is-hyg-reads
-use Rattle.names.proofs.components.is_number.Reads as is-number-reads
-use Rattle.names.proofs.components.prefix_of.Reads as prefix-of-reads
 
 abbrev Inv-loop : tie.InvT-loop
 Inv-loop bytes names words t r at₀ at =
@@ -21,31 +16,35 @@ Inv-loop bytes names words t r at₀ at =
 abbrev μ-loop : tie.MeasureT-loop
 μ-loop bytes names words t r at₀ at = at
 
--- src/names.rt:73:5
 loop-holds : tie.Need-loop-holds Inv-loop μ-loop
 loop-holds c = (c .before .before .before .pre .1, refl)
 
--- src/names.rt:73:11
 is-number-requires : tie.Need-is-number-requires Inv-loop μ-loop
-is-number-requires c κs = (c .before .before .before .before .pre .0, c .loop .inv .0)
+is-number-requires c κs =
+    let start = c .before .before .before .before in
+    (start .pre .0, c .loop .inv .0)
 
--- src/names.rt:74:9
 prefix-of-requires : tie.Need-prefix-of-requires Inv-loop μ-loop
-prefix-of-requires c κs = (c .before .before .before .before .before .before .pre .0, c .before .before .loop .inv .0, number-named _ (sym (c .before .is-number .ensures) ∙ c .if1 .taken))
+prefix-of-requires c κs =
+    let start = c .before .before .before .before .before .before in
+    (start .pre .0, c .before .before .loop .inv .0, number-named _ (sym (c .before .is-number .ensures) ∙ c .if1 .taken))
 
--- src/names.rt:73:5
 loop-less : tie.Need-loop-less Inv-loop μ-loop
 loop-less c = c .prefix-of .ensures .1
 
--- src/names.rt:73:5
 loop-again : tie.Need-loop-again Inv-loop μ-loop
-loop-again c = (omega (arith, c .prefix-of .ensures .1, c .before .before .before .loop .inv .0), ap isHygienic (c .prefix-of .ensures .0) ∙ hygienic-on _ (sym (c .before .before .is-number .ensures) ∙ c .before .if1 .taken) ∙ c .before .before .before .loop .inv .1)
+loop-again c =
+    let at-loop = c .before .before .before in (
+      omega (arith, c .prefix-of .ensures .1, at-loop .loop .inv .0),
+      ap isHygienic (c .prefix-of .ensures .0)
+          ∙ hygienic-on _ (sym (c .before .before .is-number .ensures) ∙ c .before .if1 .taken) ∙ at-loop .loop .inv .1,
+    )
 
--- src/names.rt:76:5
 is-hyg-requires : tie.Need-is-hyg-requires Inv-loop μ-loop
-is-hyg-requires c κs = (c .before .before .before .before .before .before .pre .0, c .before .before .loop .inv .0)
+is-hyg-requires c κs =
+    let start = c .before .before .before .before .before .before in
+    (start .pre .0, c .before .before .loop .inv .0)
 
--- src/names.rt:68:1
 returns : tie.Need-returns Inv-loop μ-loop
 returns c = c .is-hyg .ensures ∙ hygienic-here _ (sym (c .before .before .is-number .ensures) ∙ c .before .if1 .left) ∙ c .before .before .before .loop .inv .1
 

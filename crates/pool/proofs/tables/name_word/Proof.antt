@@ -1,41 +1,34 @@
-use Rattle.pool.specs.Tables.{nameWord, namesAt, levelsAt, listsAt, listWordsAt, exprsAt, declarsAt}
-use lib.ListN.{length, getD, List·getD-eq-default}
-use Prim.Native.Nat.{ℕ, _+_, _*_, _≤_}
-use mathlib.Core.Path.{_≡_, refl, sym, ap, _∙_}
+use Rattle.pool.specs.Tables.{nameWord}
+use Rattle.pool.proofs.TableWords.{word-past, word-read}
+use Prim.Native.Nat.{_*_}
 use native.Mathlib.Omega.{arith}
 use borrow.Author.Needs.{needs}
 use Rattle.pool.proofs.tables.name_word.Statement.{statement}
 use Rattle.pool.proofs.tables.name_word.Tie as tie
-use Rattle.pool.proofs.tables.name_word.Reads as reads
-use Rattle.pool.proofs.tables.name_word.Lts as lts
-use Rattle.pool.proofs.tables.word_at.Reads as word-at-reads
 
--- src/tables.rt:91:9
 returns : tie.Need-returns
 unfolding nameWord
-returns c = let h : length (c .before .before .args .names .now) ≤ c .before .before .args .t .«names_at» + c .before .before .args .r * 4 + c .before .before .args .k = omega arith in
-    (sym (sym (ap (λ (x : ℕ). getD (c .before .before .args .names .now) (x + c .before .before .args .r * 4 + c .before .before .args .k) 0) (c .before .before .pre .0 .names-at)) ∙ List·getD-eq-default (c .before .before .args .names .now) 0 h), omega arith)
+returns c =
+    let start = c .before .before in
+    word-past (start .args .names .now) _ _ (start .pre .0 .names-at) (start .args .r * 4) (start .args .k) (omega arith)
 
--- src/tables.rt:93:33
 mul-word-at : tie.Need-mul-word-at
 mul-word-at c = search needs
 
--- src/tables.rt:93:20
 add-word-at : tie.Need-add-word-at
 add-word-at c = search needs
 
--- src/tables.rt:93:20
 add-word-at-2 : tie.Need-add-word-at-2
 add-word-at-2 c = search needs
 
--- src/tables.rt:93:5
 word-at-requires : tie.Need-word-at-requires
 word-at-requires c κs = search needs
 
--- src/tables.rt:86:1
 returns-2 : tie.Need-returns-2
 unfolding nameWord
-returns-2 c = (c .word-at .ensures .0 ∙ ap (λ (x : ℕ). getD (c .before .before .before .before .args .names .now) (x + c .before .before .before .before .args .r * 4 + c .before .before .before .before .args .k) 0) (c .before .before .before .before .pre .0 .names-at), c .word-at .ensures .1)
+returns-2 c =
+    let start = c .before .before .before .before in
+    word-read (start .args .names .now) _ _ (start .pre .0 .names-at) (start .args .r * 4) (start .args .k) _ (c .word-at .ensures .0) (c .word-at .ensures .1)
 
 pub name-word-spec : {M : Type 1} → statement M
 name-word-spec =

@@ -1,4 +1,16 @@
 use native.Mathlib.Omega.{arith}
+use Rattle.pool.proofs.fields.app_argument.Reads as app-argument-reads
+use Rattle.pool.proofs.fields.app_function.Reads as app-function-reads
+use Rattle.pool.proofs.fields.binder_style.Reads as binder-style-reads
+use Rattle.pool.proofs.fields.binder_type.Reads as binder-type-reads
+use Rattle.pool.proofs.fields.expr_kind.Reads as expr-kind-reads
+use Rattle.pool.proofs.fields.let_body.Reads as let-body-reads
+use Rattle.pool.proofs.fields.let_name.Reads as let-name-reads
+use Rattle.pool.proofs.fields.let_type.Reads as let-type-reads
+use Rattle.pool.proofs.fields.let_value.Reads as let-value-reads
+use Rattle.pool.proofs.fields.proj_index.Reads as proj-index-reads
+use Rattle.pool.proofs.fields.proj_structure.Reads as proj-structure-reads
+use Rattle.pool.proofs.fields.var_index.Reads as var-index-reads
 use Prim.Native.Nat.{ℕ, _+_, _*_, _<_, _≤_}
 use mathlib.Core.Path.{_≡_, refl, sym, ap, _∙_}
 use borrow.Author.Needs.{needs}
@@ -7,12 +19,60 @@ use mathlib.Core.Bool.{Bool, true, false}
 use lib.Dec.{eqb}
 use Rattle.document.specs.Sink.{State, sinkOf, putNames}
 use Rattle.document.specs.Sink.State.{state}
-use Rattle.names.proofs.Emitting.{emit-stopped}
-use Rattle.pretty_printer.specs.Steps.{binderKind}
-use Rattle.pretty_printer.proofs.BinderLaws.{turned-true, turned-false}
+use Rattle.pieces.proofs.Emitting.{emit-stopped}
+use Rattle.binders.specs.Options.{optionsOf}
+use Rattle.binders.specs.Steps.{binderKind}
 use Rattle.pretty_printer.proofs.CallLaws.{names-fit}
-use Rattle.pretty_printer.proofs.RowLaws.{other-kinds, asked-below, kind-of, app-rows, app-rows-2, proj-rows, proj-field, var-index, let-name, let-type, let-value, let-inside, binder-type, binder-style, asked-inside, var-row, leaf-row, proj-row, proj-level, app-row, spine-row, head-row, let-row, let-stops, let-goes-on, chain-row-stops, chain-row-goes-on, tail-row, arrow-row, run-row, pis-row, chain-later, chain-room, part-row, groups-row, part-some, let-head-row, positive, chain-short, chain-in, binder-some, part-positive, group-few, left-few, groups-room, none-row, no-true}
-use Rattle.pretty_printer.proofs.NamingLaws.{some-binder}
+use Rattle.pretty_printer.proofs.RowLaws.{
+  other-kinds,
+  asked-below,
+  kind-of,
+  app-rows,
+  app-rows-2,
+  proj-rows,
+  proj-field,
+  var-index,
+  let-name,
+  let-type,
+  let-value,
+  let-inside,
+  binder-type,
+  binder-style,
+  asked-inside,
+  var-row,
+  leaf-row,
+  proj-row,
+  proj-level,
+  app-row,
+  spine-row,
+  head-row,
+  let-row,
+  let-stops,
+  let-goes-on,
+  chain-row-stops,
+  chain-row-goes-on,
+  tail-row,
+  arrow-row,
+  run-row,
+  pis-row,
+  chain-later,
+  chain-room,
+  part-row,
+  groups-row,
+  part-some,
+  let-head-row,
+  positive,
+  chain-short,
+  chain-in,
+  binder-some,
+  part-positive,
+  group-few,
+  left-few,
+  groups-room,
+  none-row,
+  no-true,
+}
+use Rattle.binders.proofs.NamingLaws.{some-binder}
 use borrow.Fn.Kinds.{In}
 use borrow.Fn.PlainCycle.{Measures, is, falls, and}
 use Rattle.pretty_printer.proofs.exprs.pp_app.Reads as pp-app
@@ -60,37 +120,32 @@ use Rattle.document.proofs.sink.put_join.Reads as put-join-reads
 use Rattle.document.proofs.sink.put_names.Reads as put-names-reads
 use Rattle.document.proofs.sink.put_nest.Reads as put-nest-reads
 use Rattle.names.proofs.names.pp_name_safe.Reads as pp-name-safe-reads
-use Rattle.names.proofs.parens.close_paren.Reads as close-paren-reads
-use Rattle.names.proofs.parens.open_paren.Reads as open-paren-reads
-use Rattle.names.proofs.words.end_tile.Reads as end-tile-reads
-use Rattle.pool.proofs.tables.expr_word.Reads as expr-word-reads
-use Rattle.pretty_printer.proofs.binders.is_arrow.Reads as is-arrow-reads
-use Rattle.pretty_printer.proofs.binders.level_of.Reads as level-of-reads
-use Rattle.pretty_printer.proofs.binders.part_end.Reads as part-end-reads
-use Rattle.pretty_printer.proofs.chain.chain_length.Reads as chain-length-reads
-use Rattle.pretty_printer.proofs.chain.is_binder.Reads as is-binder-reads
-use Rattle.pretty_printer.proofs.chain.push_chain.Reads as push-chain-reads
-use Rattle.pretty_printer.proofs.group.group_end.Reads as group-end-reads
-use Rattle.pretty_printer.proofs.group.pp_names.Reads as pp-names-reads
-use Rattle.pretty_printer.proofs.leaves.pp_leaf.Reads as pp-leaf-reads
-use Rattle.pretty_printer.proofs.puts.close_group.Reads as close-group-reads
-use Rattle.pretty_printer.proofs.puts.end_let.Reads as end-let-reads
-use Rattle.pretty_printer.proofs.puts.end_proj.Reads as end-proj-reads
-use Rattle.pretty_printer.proofs.puts.end_run.Reads as end-run-reads
-use Rattle.pretty_printer.proofs.puts.open_group.Reads as open-group-reads
-use Rattle.pretty_printer.proofs.puts.put_arrow.Reads as put-arrow-reads
-use Rattle.pretty_printer.proofs.puts.put_assign.Reads as put-assign-reads
-use Rattle.pretty_printer.proofs.puts.put_colon.Reads as put-colon-reads
-use Rattle.pretty_printer.proofs.puts.start_let.Reads as start-let-reads
-use Rattle.pretty_printer.proofs.puts.start_run.Reads as start-run-reads
-use Rattle.pretty_printer.proofs.stack.Stack.push.Reads as push-reads
-use Rattle.pretty_printer.proofs.vars.pp_bvar.Reads as pp-bvar-reads
-use Rattle.pretty_printer.proofs.exprs.+pp_app+pp_binders+pp_chain+pp_expr+pp_head+pp_let+pp_let_body+pp_let_head+pp_proj+pp_run+pp_spine+pp_tail+telescope.{
-  statement,
-}
-use Rattle.pretty_printer.proofs.exprs.+pp_app+pp_binders+pp_chain+pp_expr+pp_head+pp_let+pp_let_body+pp_let_head+pp_proj+pp_run+pp_spine+pp_tail+telescope.Tie.{
-  close,
-}
+use Rattle.pieces.proofs.parens.close_paren.Reads as close-paren-reads
+use Rattle.pieces.proofs.parens.open_paren.Reads as open-paren-reads
+use Rattle.pieces.proofs.words.end_tile.Reads as end-tile-reads
+use Rattle.binders.proofs.runs.is_arrow.Reads as is-arrow-reads
+use Rattle.binders.proofs.runs.level_of.Reads as level-of-reads
+use Rattle.binders.proofs.runs.part_end.Reads as part-end-reads
+use Rattle.binders.proofs.chain.chain_length.Reads as chain-length-reads
+use Rattle.binders.proofs.chain.is_binder.Reads as is-binder-reads
+use Rattle.binders.proofs.chain.push_chain.Reads as push-chain-reads
+use Rattle.binders.proofs.group.group_end.Reads as group-end-reads
+use Rattle.binders.proofs.group.pp_names.Reads as pp-names-reads
+use Rattle.binders.proofs.leaves.pp_leaf.Reads as pp-leaf-reads
+use Rattle.binders.proofs.puts.close_group.Reads as close-group-reads
+use Rattle.binders.proofs.puts.end_let.Reads as end-let-reads
+use Rattle.binders.proofs.puts.end_proj.Reads as end-proj-reads
+use Rattle.binders.proofs.puts.end_run.Reads as end-run-reads
+use Rattle.binders.proofs.puts.open_group.Reads as open-group-reads
+use Rattle.binders.proofs.puts.put_arrow.Reads as put-arrow-reads
+use Rattle.binders.proofs.puts.put_assign.Reads as put-assign-reads
+use Rattle.binders.proofs.puts.put_colon.Reads as put-colon-reads
+use Rattle.binders.proofs.puts.start_let.Reads as start-let-reads
+use Rattle.binders.proofs.puts.start_run.Reads as start-run-reads
+use Rattle.binders.proofs.stack.Stack.push.Reads as push-reads
+use Rattle.binders.proofs.vars.pp_bvar.Reads as pp-bvar-reads
+use Rattle.pretty_printer.proofs.exprs.+pp_app+pp_binders+pp_chain+pp_expr+pp_head+pp_let+pp_let_body+pp_let_head+pp_proj+pp_run+pp_spine+pp_tail+telescope.{statement}
+use Rattle.pretty_printer.proofs.exprs.+pp_app+pp_binders+pp_chain+pp_expr+pp_head+pp_let+pp_let_body+pp_let_head+pp_proj+pp_run+pp_spine+pp_tail+telescope.Tie.{close}
 
 abbrev μ-pp-app : Measures 5 pp-app-kinds.ps ℕ
 μ-pp-app κs a = a .1 .1 .1 .1 .1 .1 .1 .1 .1 .0 * 16 + 5
@@ -219,732 +274,1332 @@ telescope-below t =
     and 5 telescope-kinds.ps (falls 5 telescope-kinds.ps _<_ μ-telescope t) telescope.Pre
 
 abbrev pp-app-cs : ℕ → pp-app-lts.Claims
-pp-app-cs t = (open-paren-reads.Asked, open-paren-reads.Learnt, pp-spine-below t, pp-spine.Post, put-group-reads.Asked, put-group-reads.Learnt, put-nest-reads.Asked, put-nest-reads.Learnt, close-paren-reads.Asked, close-paren-reads.Learnt)
+pp-app-cs t = (
+  open-paren-reads.Asked,
+  open-paren-reads.Learnt,
+  pp-spine-below t,
+  pp-spine.Post,
+  put-group-reads.Asked,
+  put-group-reads.Learnt,
+  put-nest-reads.Asked,
+  put-nest-reads.Learnt,
+  close-paren-reads.Asked,
+  close-paren-reads.Learnt,
+)
 
 abbrev pp-binders-cs : ℕ → pp-binders-lts.Claims
-pp-binders-cs t = (is-arrow-reads.Asked, is-arrow-reads.Learnt, level-of-reads.Asked, level-of-reads.Learnt, part-end-reads.Asked, part-end-reads.Learnt, open-paren-reads.Asked, open-paren-reads.Learnt, pp-run-below t, pp-run.Post, pp-tail-below t, pp-tail.Post, put-join-reads.Asked, put-join-reads.Learnt, close-paren-reads.Asked, close-paren-reads.Learnt)
+pp-binders-cs t = (
+  is-arrow-reads.Asked,
+  is-arrow-reads.Learnt,
+  level-of-reads.Asked,
+  level-of-reads.Learnt,
+  part-end-reads.Asked,
+  part-end-reads.Learnt,
+  open-paren-reads.Asked,
+  open-paren-reads.Learnt,
+  pp-run-below t,
+  pp-run.Post,
+  pp-tail-below t,
+  pp-tail.Post,
+  put-join-reads.Asked,
+  put-join-reads.Learnt,
+  close-paren-reads.Asked,
+  close-paren-reads.Learnt,
+)
 
 abbrev pp-chain-cs : ℕ → pp-chain-lts.Claims
-pp-chain-cs t = (is-arrow-reads.Asked, is-arrow-reads.Learnt, level-of-reads.Asked, level-of-reads.Learnt, open-paren-reads.Asked, open-paren-reads.Learnt, chain-length-reads.Asked, chain-length-reads.Learnt, put-names-reads.Asked, put-names-reads.Learnt, push-chain-reads.Asked, push-chain-reads.Learnt, pp-binders-below t, pp-binders.Post, close-paren-reads.Asked, close-paren-reads.Learnt)
+pp-chain-cs t = (
+  is-arrow-reads.Asked,
+  is-arrow-reads.Learnt,
+  level-of-reads.Asked,
+  level-of-reads.Learnt,
+  open-paren-reads.Asked,
+  open-paren-reads.Learnt,
+  chain-length-reads.Asked,
+  chain-length-reads.Learnt,
+  put-names-reads.Asked,
+  put-names-reads.Learnt,
+  push-chain-reads.Asked,
+  push-chain-reads.Learnt,
+  pp-binders-below t,
+  pp-binders.Post,
+  close-paren-reads.Asked,
+  close-paren-reads.Learnt,
+)
 
 abbrev pp-expr-cs : ℕ → pp-expr-lts.Claims
-pp-expr-cs t = (expr-word-reads.Asked, expr-word-reads.Learnt, pp-bvar-reads.Asked, pp-bvar-reads.Learnt, pp-app-below t, pp-app.Post, pp-let-below t, pp-let.Post, pp-proj-below t, pp-proj.Post, is-binder-reads.Asked, is-binder-reads.Learnt, pp-chain-below t, pp-chain.Post, pp-leaf-reads.Asked, pp-leaf-reads.Learnt)
+pp-expr-cs t = (
+  expr-kind-reads.Asked,
+  expr-kind-reads.Learnt,
+  var-index-reads.Asked,
+  var-index-reads.Learnt,
+  pp-bvar-reads.Asked,
+  pp-bvar-reads.Learnt,
+  pp-app-below t,
+  pp-app.Post,
+  pp-let-below t,
+  pp-let.Post,
+  pp-proj-below t,
+  pp-proj.Post,
+  is-binder-reads.Asked,
+  is-binder-reads.Learnt,
+  pp-chain-below t,
+  pp-chain.Post,
+  pp-leaf-reads.Asked,
+  pp-leaf-reads.Learnt,
+)
 
 abbrev pp-head-cs : ℕ → pp-head-lts.Claims
-pp-head-cs t = (expr-word-reads.Asked, expr-word-reads.Learnt, pp-spine-below t, pp-spine.Post, pp-expr-below t, pp-expr.Post, put-group-reads.Asked, put-group-reads.Learnt)
+pp-head-cs t =
+    (expr-kind-reads.Asked, expr-kind-reads.Learnt, pp-spine-below t, pp-spine.Post, pp-expr-below t, pp-expr.Post, put-group-reads.Asked, put-group-reads.Learnt)
 
 abbrev pp-let-cs : ℕ → pp-let-lts.Claims
-pp-let-cs t = (open-paren-reads.Asked, open-paren-reads.Learnt, pp-let-head-below t, pp-let-head.Post, pp-let-body-below t, pp-let-body.Post, put-join-reads.Asked, put-join-reads.Learnt, put-group-reads.Asked, put-group-reads.Learnt, close-paren-reads.Asked, close-paren-reads.Learnt)
+pp-let-cs t = (
+  open-paren-reads.Asked,
+  open-paren-reads.Learnt,
+  pp-let-head-below t,
+  pp-let-head.Post,
+  pp-let-body-below t,
+  pp-let-body.Post,
+  put-join-reads.Asked,
+  put-join-reads.Learnt,
+  put-group-reads.Asked,
+  put-group-reads.Learnt,
+  close-paren-reads.Asked,
+  close-paren-reads.Learnt,
+)
 
 abbrev pp-let-body-cs : ℕ → pp-let-body-lts.Claims
-pp-let-body-cs t = (put-names-reads.Asked, put-names-reads.Learnt, expr-word-reads.Asked, expr-word-reads.Learnt, push-reads.Asked, push-reads.Learnt, pp-expr-below t, pp-expr.Post)
+pp-let-body-cs t = (
+  put-names-reads.Asked,
+  put-names-reads.Learnt,
+  let-name-reads.Asked,
+  let-name-reads.Learnt,
+  push-reads.Asked,
+  push-reads.Learnt,
+  let-body-reads.Asked,
+  let-body-reads.Learnt,
+  pp-expr-below t,
+  pp-expr.Post,
+)
 
 abbrev pp-let-head-cs : ℕ → pp-let-head-lts.Claims
-pp-let-head-cs t = (start-let-reads.Asked, start-let-reads.Learnt, expr-word-reads.Asked, expr-word-reads.Learnt, pp-name-safe-reads.Asked, pp-name-safe-reads.Learnt, put-colon-reads.Asked, put-colon-reads.Learnt, pp-expr-below t, pp-expr.Post, put-assign-reads.Asked, put-assign-reads.Learnt, end-let-reads.Asked, end-let-reads.Learnt)
+pp-let-head-cs t = (
+  start-let-reads.Asked,
+  start-let-reads.Learnt,
+  let-name-reads.Asked,
+  let-name-reads.Learnt,
+  pp-name-safe-reads.Asked,
+  pp-name-safe-reads.Learnt,
+  put-colon-reads.Asked,
+  put-colon-reads.Learnt,
+  let-type-reads.Asked,
+  let-type-reads.Learnt,
+  pp-expr-below t,
+  pp-expr.Post,
+  put-assign-reads.Asked,
+  put-assign-reads.Learnt,
+  let-value-reads.Asked,
+  let-value-reads.Learnt,
+  end-let-reads.Asked,
+  end-let-reads.Learnt,
+)
 
 abbrev pp-proj-cs : ℕ → pp-proj-lts.Claims
-pp-proj-cs t = (expr-word-reads.Asked, expr-word-reads.Learnt, pp-expr-below t, pp-expr.Post, end-proj-reads.Asked, end-proj-reads.Learnt)
+pp-proj-cs t =
+    (proj-structure-reads.Asked, proj-structure-reads.Learnt, pp-expr-below t, pp-expr.Post, proj-index-reads.Asked, proj-index-reads.Learnt, end-proj-reads.Asked, end-proj-reads.Learnt)
 
 abbrev pp-run-cs : ℕ → pp-run-lts.Claims
-pp-run-cs t = (expr-word-reads.Asked, expr-word-reads.Learnt, pp-expr-below t, pp-expr.Post, put-arrow-reads.Asked, put-arrow-reads.Learnt, start-run-reads.Asked, start-run-reads.Learnt, telescope-below t, telescope.Post, end-run-reads.Asked, end-run-reads.Learnt)
+pp-run-cs t = (
+  binder-type-reads.Asked,
+  binder-type-reads.Learnt,
+  pp-expr-below t,
+  pp-expr.Post,
+  put-arrow-reads.Asked,
+  put-arrow-reads.Learnt,
+  expr-kind-reads.Asked,
+  expr-kind-reads.Learnt,
+  start-run-reads.Asked,
+  start-run-reads.Learnt,
+  telescope-below t,
+  telescope.Post,
+  end-run-reads.Asked,
+  end-run-reads.Learnt,
+)
 
 abbrev pp-spine-cs : ℕ → pp-spine-lts.Claims
-pp-spine-cs t = (expr-word-reads.Asked, expr-word-reads.Learnt, pp-head-below t, pp-head.Post, put-break-reads.Asked, put-break-reads.Learnt, pp-expr-below t, pp-expr.Post, put-group-reads.Asked, put-group-reads.Learnt, end-tile-reads.Asked, end-tile-reads.Learnt)
+pp-spine-cs t = (
+  app-function-reads.Asked,
+  app-function-reads.Learnt,
+  pp-head-below t,
+  pp-head.Post,
+  put-break-reads.Asked,
+  put-break-reads.Learnt,
+  app-argument-reads.Asked,
+  app-argument-reads.Learnt,
+  pp-expr-below t,
+  pp-expr.Post,
+  put-group-reads.Asked,
+  put-group-reads.Learnt,
+  end-tile-reads.Asked,
+  end-tile-reads.Learnt,
+)
 
 abbrev pp-tail-cs : ℕ → pp-tail-lts.Claims
-pp-tail-cs t = (expr-word-reads.Asked, expr-word-reads.Learnt, is-binder-reads.Asked, is-binder-reads.Learnt, pp-binders-below t, pp-binders.Post, pp-expr-below t, pp-expr.Post)
+pp-tail-cs t =
+    (expr-kind-reads.Asked, expr-kind-reads.Learnt, is-binder-reads.Asked, is-binder-reads.Learnt, pp-binders-below t, pp-binders.Post, pp-expr-below t, pp-expr.Post)
 
 abbrev telescope-cs : ℕ → telescope-lts.Claims
-telescope-cs t = (expr-word-reads.Asked, expr-word-reads.Learnt, group-end-reads.Asked, group-end-reads.Learnt, open-group-reads.Asked, open-group-reads.Learnt, pp-names-reads.Asked, pp-names-reads.Learnt, put-colon-reads.Asked, put-colon-reads.Learnt, pp-expr-below t, pp-expr.Post, close-group-reads.Asked, close-group-reads.Learnt, telescope-below t, telescope.Post)
+telescope-cs t = (
+  binder-style-reads.Asked,
+  binder-style-reads.Learnt,
+  group-end-reads.Asked,
+  group-end-reads.Learnt,
+  binder-type-reads.Asked,
+  binder-type-reads.Learnt,
+  open-group-reads.Asked,
+  open-group-reads.Learnt,
+  pp-names-reads.Asked,
+  pp-names-reads.Learnt,
+  put-colon-reads.Asked,
+  put-colon-reads.Learnt,
+  pp-expr-below t,
+  pp-expr.Post,
+  close-group-reads.Asked,
+  close-group-reads.Learnt,
+  telescope-below t,
+  telescope.Post,
+)
 
--- src/exprs.rt:158:9
 pp-app-open-paren-requires : (t : ℕ) → pp-app-lts.Need-open-paren-requires (pp-app-cs t) (pp-app-at t) pp-app.Post
 pp-app-open-paren-requires t c κs = search needs
 
--- src/exprs.rt:159:9
 pp-app-pp-spine-requires : (t : ℕ) → pp-app-lts.Need-pp-spine-requires (pp-app-cs t) (pp-app-at t) pp-app.Post
-pp-app-pp-spine-requires t c κs = (omega (arith, c .before .before .before .before .before .before .before .before .before .before .before .before .before .before .pre .0), (c .before .before .before .before .before .before .before .before .before .before .before .before .before .before .pre .1 .0, c .before .before .before .before .before .before .before .before .before .before .before .before .before .before .pre .1 .2))
+pp-app-pp-spine-requires t c κs =
+    let start = c .before .before .before .before .before .before .before .before .before .before .before .before .before .before in
+    (omega (arith, start .pre .0), (start .pre .1 .0, start .pre .1 .2))
 
--- src/exprs.rt:160:9
 pp-app-put-group-requires : (t : ℕ) → pp-app-lts.Need-put-group-requires (pp-app-cs t) (pp-app-at t) pp-app.Post
 pp-app-put-group-requires t c κs = search needs
 
--- src/exprs.rt:161:9
 pp-app-put-nest-requires : (t : ℕ) → pp-app-lts.Need-put-nest-requires (pp-app-cs t) (pp-app-at t) pp-app.Post
 pp-app-put-nest-requires t c κs = search needs
 
--- src/exprs.rt:162:5
 pp-app-close-paren-requires : (t : ℕ) → pp-app-lts.Need-close-paren-requires (pp-app-cs t) (pp-app-at t) pp-app.Post
 pp-app-close-paren-requires t c κs = search needs
 
--- src/exprs.rt:140:1
 pp-app-same-length : (t : ℕ) → pp-app-lts.Need-same-length (pp-app-cs t) (pp-app-at t) pp-app.Post
-pp-app-same-length t c = c .before .before .before .before .close-paren .kept .0 ∙ c .before .before .before .before .before .before .before .before .before .before .before .put-nest .kept .0 ∙ c .before .before .before .before .before .before .before .before .before .before .before .before .before .before .before .before .before .before .put-group .kept .0 ∙ c .before .before .before .before .before .before .before .before .before .before .before .before .before .before .before .before .before .before .before .before .before .before .before .before .before .pp-spine .kept .1 .1 .1 .1 .0 ∙ c .before .before .before .before .before .before .before .before .before .before .before .before .before .before .before .before .before .before .before .before .before .before .before .before .before .before .before .before .before .before .before .before .open-paren .kept .0
+pp-app-same-length t c =
+    let at-close-paren = c .before .before .before .before in
+    let at-put-nest = at-close-paren .before .before .before .before .before .before .before in
+    let at-put-group = at-put-nest .before .before .before .before .before .before .before in
+    let at-pp-spine = at-put-group .before .before .before .before .before .before .before in
+    let at-open-paren = at-pp-spine .before .before .before .before .before .before .before in
+    at-close-paren .close-paren .kept .0 ∙ at-put-nest .put-nest .kept .0 ∙ at-put-group .put-group .kept .0 ∙ at-pp-spine .pp-spine .kept .1 .1 .1 .1 .0 ∙ at-open-paren .open-paren .kept .0
 
--- src/exprs.rt:140:1
 pp-app-same-length-2 : (t : ℕ) → pp-app-lts.Need-same-length-2 (pp-app-cs t) (pp-app-at t) pp-app.Post
-pp-app-same-length-2 t c = c .before .before .before .before .close-paren .kept .1 .0 ∙ c .before .before .before .before .before .before .before .before .before .before .before .put-nest .kept .1 .0 ∙ c .before .before .before .before .before .before .before .before .before .before .before .before .before .before .before .before .before .before .put-group .kept .1 .0 ∙ c .before .before .before .before .before .before .before .before .before .before .before .before .before .before .before .before .before .before .before .before .before .before .before .before .before .pp-spine .kept .1 .1 .1 .1 .1 .0 ∙ c .before .before .before .before .before .before .before .before .before .before .before .before .before .before .before .before .before .before .before .before .before .before .before .before .before .before .before .before .before .before .before .before .open-paren .kept .1 .0
+pp-app-same-length-2 t c =
+    let at-close-paren = c .before .before .before .before in
+    let at-put-nest = at-close-paren .before .before .before .before .before .before .before in
+    let at-put-group = at-put-nest .before .before .before .before .before .before .before in
+    let at-pp-spine = at-put-group .before .before .before .before .before .before .before in
+    let at-open-paren = at-pp-spine .before .before .before .before .before .before .before in
+    at-close-paren .close-paren .kept .1 .0 ∙ at-put-nest .put-nest .kept .1 .0 ∙ at-put-group .put-group .kept .1 .0
+    ∙ at-pp-spine .pp-spine .kept .1 .1 .1 .1 .1 .0 ∙ at-open-paren .open-paren .kept .1 .0
 
--- src/exprs.rt:140:1
 pp-app-returns : (t : ℕ) → pp-app-lts.Need-returns (pp-app-cs t) (pp-app-at t) pp-app.Post
-pp-app-returns t c = rw (c .before .before .before .before .close-paren .ensures, c .before .before .before .before .before .before .before .before .before .before .before .put-nest .ensures, c .before .before .before .before .before .before .before .before .before .before .before .before .before .before .before .before .before .before .put-group .ensures, c .before .before .before .before .before .before .before .before .before .before .before .before .before .before .before .before .before .before .before .before .before .before .before .before .before .pp-spine .ensures, c .before .before .before .before .before .before .before .before .before .before .before .before .before .before .before .before .before .before .before .before .before .before .before .before .before .before .before .before .before .before .before .before .open-paren .ensures) (app-row (c .before .before .before .before .before .before .before .before .before .before .before .before .before .before .before .before .before .before .before .before .before .before .before .before .before .before .before .before .before .before .before .before .before .before .before .before .before .before .before .before .pre .1 .0) _ _ _ (c .before .before .before .before .before .before .before .before .before .before .before .before .before .before .before .before .before .before .before .before .before .before .before .before .before .before .before .before .before .before .before .before .before .before .before .before .before .before .before .before .pre .1 .2))
+pp-app-returns t c =
+    let at-close-paren = c .before .before .before .before in
+    let at-put-nest = at-close-paren .before .before .before .before .before .before .before in
+    let at-put-group = at-put-nest .before .before .before .before .before .before .before in
+    let at-pp-spine = at-put-group .before .before .before .before .before .before .before in
+    let at-open-paren = at-pp-spine .before .before .before .before .before .before .before in
+    let start = at-open-paren .before .before .before .before .before .before .before .before in
+    rw (
+      at-close-paren .close-paren .ensures,
+      at-put-nest .put-nest .ensures,
+      at-put-group .put-group .ensures,
+      at-pp-spine .pp-spine .ensures,
+      at-open-paren .open-paren .ensures,
+    ) (app-row (start .pre .1 .0) _ _ _ (start .pre .1 .2))
 
--- src/exprs.rt:533:9
 pp-binders-returns : (t : ℕ) → pp-binders-lts.Need-returns (pp-binders-cs t) (pp-binders-at t) pp-binders.Post
 pp-binders-returns t c = sym (emit-stopped _ (state _ _ _) (ne-eqb _ 0 (c .if1 .taken)))
 
--- src/exprs.rt:535:9
 pp-binders-is-arrow-requires : (t : ℕ) → pp-binders-lts.Need-is-arrow-requires (pp-binders-cs t) (pp-binders-at t) pp-binders.Post
-pp-binders-is-arrow-requires t c κs = (c .before .before .before .before .before .before .before .pre .1 .0 .asked .pool, c .before .before .before .before .before .before .before .pre .1 .0 .asked .row, c .before .before .before .before .before .before .before .pre .1 .2)
+pp-binders-is-arrow-requires t c κs =
+    let start = c .before .before .before .before .before .before .before .before in
+    (start .pre .1 .0 .asked .pool, start .pre .1 .0 .asked .row, start .pre .1 .2)
 
--- src/exprs.rt:536:9
 pp-binders-level-of-requires : (t : ℕ) → pp-binders-lts.Need-level-of-requires (pp-binders-cs t) (pp-binders-at t) pp-binders.Post
 pp-binders-level-of-requires t c κs = search needs
 
--- src/exprs.rt:538:9
 pp-binders-part-end-requires : (t : ℕ) → pp-binders-lts.Need-part-end-requires (pp-binders-cs t) (pp-binders-at t) pp-binders.Post
-pp-binders-part-end-requires t c κs = ((c .before .before .before .before .before .before .before .before .before .pre .1 .0 .asked .pool, c .before .before .before .before .before .before .before .before .before .pre .1 .0 .asked .row, c .before .before .before .before .before .before .before .before .before .pre .1 .2), c .before .is-arrow .ensures)
+pp-binders-part-end-requires t c κs =
+    let start = c .before .before .before .before .before .before .before .before .before .before in
+    ((start .pre .1 .0 .asked .pool, start .pre .1 .0 .asked .row, start .pre .1 .2), c .before .is-arrow .ensures)
 
--- src/exprs.rt:539:9
 pp-binders-open-paren-requires : (t : ℕ) → pp-binders-lts.Need-open-paren-requires (pp-binders-cs t) (pp-binders-at t) pp-binders.Post
 pp-binders-open-paren-requires t c κs = search needs
 
--- src/exprs.rt:540:9
 pp-binders-pp-run-requires : (t : ℕ) → pp-binders-lts.Need-pp-run-requires (pp-binders-cs t) (pp-binders-at t) pp-binders.Post
-pp-binders-pp-run-requires t c κs = (omega (arith, c .before .before .before .before .before .before .before .before .before .before .before .before .before .before .before .before .before .before .before .pre .0), (c .before .before .before .before .before .before .before .before .before .before .before .before .before .before .before .before .before .before .before .pre .1 .0, c .before .before .before .before .before .before .before .before .before .before .before .before .before .before .before .before .before .before .before .pre .1 .2, c .before .before .before .before .before .before .before .before .before .before .before .is-arrow .ensures, c .before .before .before .before .before .before .before .before .before .part-end .ensures .length))
+pp-binders-pp-run-requires t c κs =
+    let at-part-end = c .before .before .before .before .before .before .before .before .before in
+    let at-is-arrow = at-part-end .before .before in
+    let start = at-is-arrow .before .before .before .before .before .before .before .before .before in
+    (omega (arith, start .pre .0), (start .pre .1 .0, start .pre .1 .2, at-is-arrow .is-arrow .ensures, at-part-end .part-end .ensures .length))
 
--- src/exprs.rt:556:16
 pp-binders-add-next : (t : ℕ) → pp-binders-lts.Need-add-next (pp-binders-cs t) (pp-binders-at t) pp-binders.Post
-pp-binders-add-next t c = let few = part-some _ _ _ (c .before .before .before .before .before .before .before .before .before .before .before .before .before .before .before .part-end .ensures .length) (binder-some (c .before .before .before .before .before .before .before .before .before .before .before .before .before .before .before .before .before .before .before .before .before .before .before .before .before .pre .1 .0 .asked) (c .before .before .before .before .before .before .before .before .before .before .before .before .before .before .before .before .before .before .before .before .before .before .before .before .before .pre .1 .2)) in
-    omega (arith, chain-room (c .before .before .before .before .before .before .before .before .before .before .before .before .before .before .before .before .before .before .before .before .before .before .before .before .before .pre .1 .0) (c .before .before .before .before .before .before .before .before .before .before .before .before .before .before .before .before .before .before .before .before .before .before .before .before .before .pre .1 .2) _ few, c .before .before .before .before .before .before .before .before .before .before .before .before .before .before .before .before .before .before .before .before .before .before .before .before .before .pre .1 .0 .asked .held .linked .small)
+pp-binders-add-next t c =
+    let at-part-end = c .before .before .before .before .before .before .before .before .before .before .before .before .before .before in
+    let start = at-part-end .before .before .before .before .before .before .before .before .before .before .before in
+    let few = part-some _ _ _ (at-part-end .part-end .ensures .length) (binder-some (start .pre .1 .0 .asked) (start .pre .1 .2)) in
+    omega (arith, chain-room (start .pre .1 .0) (start .pre .1 .2) _ few, start .pre .1 .0 .asked .held .linked .small)
 
--- src/exprs.rt:557:9
 pp-binders-pp-tail-requires : (t : ℕ) → pp-binders-lts.Need-pp-tail-requires (pp-binders-cs t) (pp-binders-at t) pp-binders.Post
-pp-binders-pp-tail-requires t c κs = let few = part-some _ _ _ (c .before .before .before .before .before .before .before .before .before .before .before .before .before .before .before .before .before .part-end .ensures .length) (binder-some (c .before .before .before .before .before .before .before .before .before .before .before .before .before .before .before .before .before .before .before .before .before .before .before .before .before .before .before .pre .1 .0 .asked) (c .before .before .before .before .before .before .before .before .before .before .before .before .before .before .before .before .before .before .before .before .before .before .before .before .before .before .before .pre .1 .2)) in
-    let some = part-positive (c .before .before .before .before .before .before .before .before .before .before .before .before .before .before .before .before .before .before .before .before .before .before .before .before .before .before .before .pre .1 .0 .asked) (c .before .before .before .before .before .before .before .before .before .before .before .before .before .before .before .before .before .before .before .before .before .before .before .before .before .before .before .pre .1 .2) _ _ (c .before .before .before .before .before .before .before .before .before .before .before .before .before .before .before .before .before .before .before .is-arrow .ensures) (c .before .before .before .before .before .before .before .before .before .before .before .before .before .before .before .before .before .part-end .ensures .length) in
-    (omega (arith, c .before .before .before .before .before .before .before .before .before .before .before .before .before .before .before .before .before .before .before .before .before .before .before .before .before .before .before .pre .0, c .before .before .before .before .before .before .before .before .before .before .before .before .before .before .before .before .before .part-end .ensures .low), (chain-later (c .before .before .before .before .before .before .before .before .before .before .before .before .before .before .before .before .before .before .before .before .before .before .before .before .before .before .before .pre .1 .0) (c .before .before .before .before .before .before .before .before .before .before .before .before .before .before .before .before .before .before .before .before .before .before .before .before .before .before .before .pre .1 .2) _ _ _ some few (c .before .before .before .before .before .before .before .before .before .before .before .before .before .before .before .before .before .part-end .ensures .tree) (c .before .before .before .before .before .before .before .before .before .before .before .before .before .before .before .before .before .part-end .ensures .low) refl, c .before .before .before .before .before .before .before .before .before .before .before .before .before .before .before .before .before .before .level-of .ensures .1))
+pp-binders-pp-tail-requires t c κs =
+    let at-part-end = c .before .before .before .before .before .before .before .before .before .before .before .before .before .before .before .before in
+    let at-level-of = at-part-end .before in
+    let at-is-arrow = at-level-of .before in
+    let start = at-is-arrow .before .before .before .before .before .before .before .before .before in
+    let few = part-some _ _ _ (at-part-end .part-end .ensures .length) (binder-some (start .pre .1 .0 .asked) (start .pre .1 .2)) in
+    let some = part-positive (start .pre .1 .0 .asked) (start .pre .1 .2) _ _ (at-is-arrow .is-arrow .ensures) (at-part-end .part-end .ensures .length) in (
+      omega (arith, start .pre .0, at-part-end .part-end .ensures .low),
+      (chain-later (start .pre .1 .0) (start .pre .1 .2) _ _ _ some few (at-part-end .part-end .ensures .tree) (at-part-end .part-end .ensures .low) refl, at-level-of .level-of .ensures .1),
+    )
 
--- src/exprs.rt:572:9
 pp-binders-put-join-requires : (t : ℕ) → pp-binders-lts.Need-put-join-requires (pp-binders-cs t) (pp-binders-at t) pp-binders.Post
 pp-binders-put-join-requires t c κs = search needs
 
--- src/exprs.rt:573:5
 pp-binders-close-paren-requires : (t : ℕ) → pp-binders-lts.Need-close-paren-requires (pp-binders-cs t) (pp-binders-at t) pp-binders.Post
 pp-binders-close-paren-requires t c κs = search needs
 
--- src/exprs.rt:514:1
 pp-binders-same-length : (t : ℕ) → pp-binders-lts.Need-same-length (pp-binders-cs t) (pp-binders-at t) pp-binders.Post
-pp-binders-same-length t c = c .before .before .before .before .close-paren .kept .0 ∙ c .before .before .before .before .before .before .before .before .before .before .before .put-join .kept .0 ∙ c .before .before .before .before .before .before .before .before .before .before .before .before .before .before .before .before .before .before .pp-tail .kept .1 .1 .1 .1 .0 ∙ c .before .before .before .before .before .before .before .before .before .before .before .before .before .before .before .before .before .before .before .before .before .before .before .before .before .before .pp-run .kept .1 .1 .1 .1 .0 ∙ c .before .before .before .before .before .before .before .before .before .before .before .before .before .before .before .before .before .before .before .before .before .before .before .before .before .before .before .before .before .before .before .before .before .open-paren .kept .0
+pp-binders-same-length t c =
+    let at-close-paren = c .before .before .before .before in
+    let at-put-join = at-close-paren .before .before .before .before .before .before .before in
+    let at-pp-tail = at-put-join .before .before .before .before .before .before .before in
+    let at-pp-run = at-pp-tail .before .before .before .before .before .before .before in
+    let at-open-paren = at-pp-run .before .before .before .before .before .before .before in
+    at-close-paren .close-paren .kept .0 ∙ at-put-join .put-join .kept .0 ∙ at-pp-tail .pp-tail .kept .1 .1 .1 .1 .0
+    ∙ at-pp-run .pp-run .kept .1 .1 .1 .1 .0 ∙ at-open-paren .open-paren .kept .0
 
--- src/exprs.rt:514:1
 pp-binders-same-length-2 : (t : ℕ) → pp-binders-lts.Need-same-length-2 (pp-binders-cs t) (pp-binders-at t) pp-binders.Post
-pp-binders-same-length-2 t c = c .before .before .before .before .close-paren .kept .1 .0 ∙ c .before .before .before .before .before .before .before .before .before .before .before .put-join .kept .1 .0 ∙ c .before .before .before .before .before .before .before .before .before .before .before .before .before .before .before .before .before .before .pp-tail .kept .1 .1 .1 .1 .1 .0 ∙ c .before .before .before .before .before .before .before .before .before .before .before .before .before .before .before .before .before .before .before .before .before .before .before .before .before .before .pp-run .kept .1 .1 .1 .1 .1 .0 ∙ c .before .before .before .before .before .before .before .before .before .before .before .before .before .before .before .before .before .before .before .before .before .before .before .before .before .before .before .before .before .before .before .before .before .open-paren .kept .1 .0
+pp-binders-same-length-2 t c =
+    let at-close-paren = c .before .before .before .before in
+    let at-put-join = at-close-paren .before .before .before .before .before .before .before in
+    let at-pp-tail = at-put-join .before .before .before .before .before .before .before in
+    let at-pp-run = at-pp-tail .before .before .before .before .before .before .before in
+    let at-open-paren = at-pp-run .before .before .before .before .before .before .before in
+    at-close-paren .close-paren .kept .1 .0 ∙ at-put-join .put-join .kept .1 .0 ∙ at-pp-tail .pp-tail .kept .1 .1 .1 .1 .1 .0
+    ∙ at-pp-run .pp-run .kept .1 .1 .1 .1 .1 .0 ∙ at-open-paren .open-paren .kept .1 .0
 
--- src/exprs.rt:514:1
 pp-binders-returns-2 : (t : ℕ) → pp-binders-lts.Need-returns-2 (pp-binders-cs t) (pp-binders-at t) pp-binders.Post
-pp-binders-returns-2 t c = rw (c .before .before .before .before .close-paren .ensures, c .before .before .before .before .before .before .before .before .before .before .before .put-join .ensures, c .before .before .before .before .before .before .before .before .before .before .before .before .before .before .before .before .before .before .pp-tail .ensures, c .before .before .before .before .before .before .before .before .before .before .before .before .before .before .before .before .before .before .before .before .before .before .before .before .before .before .pp-run .ensures, c .before .before .before .before .before .before .before .before .before .before .before .before .before .before .before .before .before .before .before .before .before .before .before .before .before .before .before .before .before .before .before .before .before .open-paren .ensures) (part-row (c .before .before .before .before .before .before .before .before .before .before .before .before .before .before .before .before .before .before .before .before .before .before .before .before .before .before .before .before .before .before .before .before .before .before .before .before .before .before .before .before .before .before .before .before .before .before .pre .1 .0) (c .before .before .before .before .before .before .before .before .before .before .before .before .before .before .before .before .before .before .before .before .before .before .before .before .before .before .before .before .before .before .before .before .before .before .before .before .before .before .before .before .before .before .before .before .before .before .pre .1 .2) _ _ _ _ _ _ _ _ (c .before .before .before .before .before .before .before .before .before .before .before .before .before .before .before .before .before .before .before .before .before .before .before .before .before .before .before .before .before .before .before .before .before .before .before .before .before .before .is-arrow .ensures) (c .before .before .before .before .before .before .before .before .before .before .before .before .before .before .before .before .before .before .before .before .before .before .before .before .before .before .before .before .before .before .before .before .before .before .before .before .before .level-of .ensures .0) (c .before .before .before .before .before .before .before .before .before .before .before .before .before .before .before .before .before .before .before .before .before .before .before .before .before .before .before .before .before .before .before .before .before .before .before .before .part-end .ensures) refl)
+pp-binders-returns-2 t c =
+    let at-close-paren = c .before .before .before .before in
+    let at-put-join = at-close-paren .before .before .before .before .before .before .before in
+    let at-pp-tail = at-put-join .before .before .before .before .before .before .before in
+    let at-pp-run = at-pp-tail .before .before .before .before .before .before .before in
+    let at-open-paren = at-pp-run .before .before .before .before .before .before .before in
+    let at-part-end = at-open-paren .before .before .before in
+    let at-level-of = at-part-end .before in
+    let at-is-arrow = at-level-of .before in
+    let start = at-is-arrow .before .before .before .before .before .before .before .before .before in
+    rw (
+      at-close-paren .close-paren .ensures,
+      at-put-join .put-join .ensures,
+      at-pp-tail .pp-tail .ensures,
+      at-pp-run .pp-run .ensures,
+      at-open-paren .open-paren .ensures,
+    )
+    (part-row (start .pre .1 .0) (start .pre .1 .2) _ _ _ _ _ _ _ _ (at-is-arrow .is-arrow .ensures) (at-level-of .level-of .ensures .0)
+    (at-part-end .part-end .ensures) refl)
 
--- src/exprs.rt:433:9
 pp-chain-is-arrow-requires : (t : ℕ) → pp-chain-lts.Need-is-arrow-requires (pp-chain-cs t) (pp-chain-at t) pp-chain.Post
-pp-chain-is-arrow-requires t c κs = (c .before .before .before .before .before .pre .1 .0 .pool, c .before .before .before .before .before .pre .1 .0 .row, c .before .before .before .before .before .pre .1 .2)
+pp-chain-is-arrow-requires t c κs =
+    let start = c .before .before .before .before .before .before in
+    (start .pre .1 .0 .pool, start .pre .1 .0 .row, start .pre .1 .2)
 
--- src/exprs.rt:434:27
 pp-chain-level-of-requires : (t : ℕ) → pp-chain-lts.Need-level-of-requires (pp-chain-cs t) (pp-chain-at t) pp-chain.Post
 pp-chain-level-of-requires t c κs = search needs
 
--- src/exprs.rt:435:9
 pp-chain-open-paren-requires : (t : ℕ) → pp-chain-lts.Need-open-paren-requires (pp-chain-cs t) (pp-chain-at t) pp-chain.Post
 pp-chain-open-paren-requires t c κs = search needs
 
--- src/exprs.rt:437:9
 pp-chain-chain-length-requires : (t : ℕ) → pp-chain-lts.Need-chain-length-requires (pp-chain-cs t) (pp-chain-at t) pp-chain.Post
-pp-chain-chain-length-requires t c κs = (c .before .before .before .before .before .before .before .before .before .before .before .before .before .before .pre .1 .0 .pool, c .before .before .before .before .before .before .before .before .before .before .before .before .before .before .pre .1 .0 .row)
+pp-chain-chain-length-requires t c κs =
+    let start = c .before .before .before .before .before .before .before .before .before .before .before .before .before .before .before in
+    (start .pre .1 .0 .pool, start .pre .1 .0 .row)
 
--- src/exprs.rt:438:41
 pp-chain-add-put-names : (t : ℕ) → pp-chain-lts.Need-add-put-names (pp-chain-cs t) (pp-chain-at t) pp-chain.Post
-pp-chain-add-put-names t c = omega (arith, c .before .before .before .before .before .before .before .before .before .before .before .before .before .before .before .before .before .pre .1 .0 .held .linked .small, chain-short (c .before .before .before .before .before .before .before .before .before .before .before .before .before .before .before .before .before .pre .1 .0), c .before .before .chain-length .ensures .0)
+pp-chain-add-put-names t c =
+    let start = c .before .before .before .before .before .before .before .before .before .before .before .before .before .before .before .before .before .before in
+    omega (arith, start .pre .1 .0 .held .linked .small, chain-short (start .pre .1 .0), c .before .before .chain-length .ensures .0)
 
--- src/exprs.rt:438:9
 pp-chain-put-names-requires : (t : ℕ) → pp-chain-lts.Need-put-names-requires (pp-chain-cs t) (pp-chain-at t) pp-chain.Post
 pp-chain-put-names-requires t c κs = search needs
 
--- src/exprs.rt:440:9
 pp-chain-same-length : (t : ℕ) → pp-chain-lts.Need-same-length (pp-chain-cs t) (pp-chain-at t) pp-chain.Post
-pp-chain-same-length t c = c .before .before .before .before .before .before .put-names .kept .0 ∙ c .before .before .before .before .before .before .before .before .before .before .before .before .before .before .open-paren .kept .0
+pp-chain-same-length t c =
+    let at-put-names = c .before .before .before .before .before .before in
+    let at-open-paren = at-put-names .before .before .before .before .before .before .before .before in
+    at-put-names .put-names .kept .0 ∙ at-open-paren .open-paren .kept .0
 
--- src/exprs.rt:440:9
 pp-chain-same-length-2 : (t : ℕ) → pp-chain-lts.Need-same-length-2 (pp-chain-cs t) (pp-chain-at t) pp-chain.Post
-pp-chain-same-length-2 t c = c .before .before .before .before .before .before .put-names .kept .1 .0 ∙ c .before .before .before .before .before .before .before .before .before .before .before .before .before .before .open-paren .kept .1 .0
+pp-chain-same-length-2 t c =
+    let at-put-names = c .before .before .before .before .before .before in
+    let at-open-paren = at-put-names .before .before .before .before .before .before .before .before in
+    at-put-names .put-names .kept .1 .0 ∙ at-open-paren .open-paren .kept .1 .0
 
--- src/exprs.rt:440:9
 pp-chain-returns : (t : ℕ) → pp-chain-lts.Need-returns (pp-chain-cs t) (pp-chain-at t) pp-chain.Post
-pp-chain-returns t c = let e = c .before .before .before .before .before .before .put-names .ensures ∙ ap (putNames _ _) (c .before .before .before .before .before .before .before .before .before .before .before .before .before .before .open-paren .ensures) in
-    e ∙ chain-row-stops (c .before .before .before .before .before .before .before .before .before .before .before .before .before .before .before .before .before .before .before .before .before .before .before .before .pre .1 .0) _ _ _ _ _ _ (c .before .before .before .before .before .before .before .before .before .before .before .before .before .before .before .before .before .before .before .before .before .before .before .before .pre .1 .2) (c .before .before .before .before .before .before .before .before .before .before .before .before .before .before .before .before .before .before .is-arrow .ensures) (c .before .before .before .before .before .before .before .before .before .before .before .before .before .before .before .before .before .level-of .ensures .0) (ap (λ (n : ℕ). c .before .before .before .before .before .before .before .before .before .before .before .before .before .before .before .before .before .before .before .before .before .before .before .before .args .k .count + n) (c .before .before .before .before .before .before .before .before .before .chain-length .ensures .0)) (ap (λ (st : State). eqb (sinkOf st .stop) 0) (sym e) ∙ ne-eqb _ 0 (c .if1 .taken))
+pp-chain-returns t c =
+    let at-put-names = c .before .before .before .before .before .before in
+    let at-chain-length = at-put-names .before .before .before in
+    let at-open-paren = at-chain-length .before .before .before .before .before in
+    let at-level-of = at-open-paren .before .before .before in
+    let at-is-arrow = at-level-of .before in
+    let start = at-is-arrow .before .before .before .before .before .before .before in
+    let e = at-put-names .put-names .ensures ∙ ap (putNames _ _) (at-open-paren .open-paren .ensures) in
+    e ∙ chain-row-stops (start .pre .1 .0) _ _ _ _ _ _ (start .pre .1 .2) (at-is-arrow .is-arrow .ensures) (at-level-of .level-of .ensures .0) (ap (λ
+    (n : ℕ). start .args .k .count + n) (at-chain-length .chain-length .ensures .0)) (ap (λ (st : State). eqb (sinkOf st .stop) 0) (sym e)
+    ∙ ne-eqb _ 0 (c .if1 .taken))
 
--- src/exprs.rt:442:9
 pp-chain-push-chain-requires : (t : ℕ) → pp-chain-lts.Need-push-chain-requires (pp-chain-cs t) (pp-chain-at t) pp-chain.Post
-pp-chain-push-chain-requires t c κs = let fits = names-fit _ _ _ (ap (λ (st : State). eqb (sinkOf st .stop) 0) (sym (c .before .before .before .before .before .before .put-names .ensures)) ∙ eq-eqb _ 0 (c .if1 .left)) in
-    (c .before .before .before .before .before .before .before .before .before .before .before .before .before .before .before .before .before .before .before .before .before .before .before .before .pre .1 .0, omega (arith, fits, c .before .before .before .before .before .before .before .before .before .chain-length .ensures .0))
+pp-chain-push-chain-requires t c κs =
+    let at-put-names = c .before .before .before .before .before .before in
+    let at-chain-length = at-put-names .before .before .before in
+    let start = at-chain-length .before .before .before .before .before .before .before .before .before .before .before .before .before .before .before .before in
+    let fits = names-fit _ _ _ (ap (λ (st : State). eqb (sinkOf st .stop) 0) (sym (at-put-names .put-names .ensures)) ∙ eq-eqb _ 0 (c .if1 .left)) in
+    (start .pre .1 .0, omega (arith, fits, at-chain-length .chain-length .ensures .0))
 
--- src/exprs.rt:443:9
 pp-chain-pp-binders-requires : (t : ℕ) → pp-chain-lts.Need-pp-binders-requires (pp-chain-cs t) (pp-chain-at t) pp-chain.Post
-pp-chain-pp-binders-requires t c κs = (omega (arith, c .before .before .before .before .before .before .before .before .before .before .before .before .before .before .before .before .before .before .before .before .before .before .before .before .before .before .before .pre .0), (chain-in (c .before .before .before .before .before .before .before .before .before .before .before .before .before .before .before .before .before .before .before .before .before .before .before .before .before .before .before .pre .1 .0) _ (c .before .before .push-chain .ensures), omega arith, c .before .before .before .before .before .before .before .before .before .before .before .before .before .before .before .before .before .before .before .before .before .before .before .before .before .before .before .pre .1 .2))
+pp-chain-pp-binders-requires t c κs =
+    let start = c .before .before .before .before .before .before .before .before .before .before .before .before .before .before .before .before
+    .before .before .before .before .before .before .before .before .before .before .before .before in
+    (omega (arith, start .pre .0), (chain-in (start .pre .1 .0) _ (c .before .before .push-chain .ensures), omega arith, start .pre .1 .2))
 
--- src/exprs.rt:458:5
 pp-chain-close-paren-requires : (t : ℕ) → pp-chain-lts.Need-close-paren-requires (pp-chain-cs t) (pp-chain-at t) pp-chain.Post
 pp-chain-close-paren-requires t c κs = search needs
 
--- src/exprs.rt:416:1
 pp-chain-same-length-3 : (t : ℕ) → pp-chain-lts.Need-same-length-3 (pp-chain-cs t) (pp-chain-at t) pp-chain.Post
-pp-chain-same-length-3 t c = c .before .before .before .before .close-paren .kept .0 ∙ c .before .before .before .before .before .before .before .before .before .before .before .pp-binders .kept .1 .1 .1 .1 .0 ∙ c .before .before .before .before .before .before .before .before .before .before .before .before .before .before .before .before .before .before .before .before .before .put-names .kept .0 ∙ c .before .before .before .before .before .before .before .before .before .before .before .before .before .before .before .before .before .before .before .before .before .before .before .before .before .before .before .before .before .open-paren .kept .0
+pp-chain-same-length-3 t c =
+    let at-close-paren = c .before .before .before .before in
+    let at-pp-binders = at-close-paren .before .before .before .before .before .before .before in
+    let at-put-names = at-pp-binders .before .before .before .before .before .before .before .before .before .before in
+    let at-open-paren = at-put-names .before .before .before .before .before .before .before .before in
+    at-close-paren .close-paren .kept .0 ∙ at-pp-binders .pp-binders .kept .1 .1 .1 .1 .0 ∙ at-put-names .put-names .kept .0 ∙ at-open-paren .open-paren .kept .0
 
--- src/exprs.rt:416:1
 pp-chain-same-length-4 : (t : ℕ) → pp-chain-lts.Need-same-length-4 (pp-chain-cs t) (pp-chain-at t) pp-chain.Post
-pp-chain-same-length-4 t c = c .before .before .before .before .close-paren .kept .1 .0 ∙ c .before .before .before .before .before .before .before .before .before .before .before .pp-binders .kept .1 .1 .1 .1 .1 .0 ∙ c .before .before .before .before .before .before .before .before .before .before .before .before .before .before .before .before .before .before .before .before .before .put-names .kept .1 .0 ∙ c .before .before .before .before .before .before .before .before .before .before .before .before .before .before .before .before .before .before .before .before .before .before .before .before .before .before .before .before .before .open-paren .kept .1 .0
+pp-chain-same-length-4 t c =
+    let at-close-paren = c .before .before .before .before in
+    let at-pp-binders = at-close-paren .before .before .before .before .before .before .before in
+    let at-put-names = at-pp-binders .before .before .before .before .before .before .before .before .before .before in
+    let at-open-paren = at-put-names .before .before .before .before .before .before .before .before in
+    at-close-paren .close-paren .kept .1 .0 ∙ at-pp-binders .pp-binders .kept .1 .1 .1 .1 .1 .0 ∙ at-put-names .put-names .kept .1 .0 ∙ at-open-paren .open-paren .kept .1 .0
 
--- src/exprs.rt:416:1
 pp-chain-returns-2 : (t : ℕ) → pp-chain-lts.Need-returns-2 (pp-chain-cs t) (pp-chain-at t) pp-chain.Post
-pp-chain-returns-2 t c = rw (c .before .before .before .before .close-paren .ensures, c .before .before .before .before .before .before .before .before .before .before .before .pp-binders .ensures, c .before .before .before .before .before .before .before .before .before .before .before .before .before .before .before .before .before .before .before .before .before .put-names .ensures, c .before .before .before .before .before .before .before .before .before .before .before .before .before .before .before .before .before .before .before .before .before .before .before .before .before .before .before .before .before .open-paren .ensures) (chain-row-goes-on (c .before .before .before .before .before .before .before .before .before .before .before .before .before .before .before .before .before .before .before .before .before .before .before .before .before .before .before .before .before .before .before .before .before .before .before .before .before .before .before .pre .1 .0) _ _ _ _ _ _ _ (c .before .before .before .before .before .before .before .before .before .before .before .before .before .before .before .before .before .before .before .before .before .before .before .before .before .before .before .before .before .before .before .before .before .before .before .before .before .before .before .pre .1 .2) (c .before .before .before .before .before .before .before .before .before .before .before .before .before .before .before .before .before .before .before .before .before .before .before .before .before .before .before .before .before .before .before .before .before .is-arrow .ensures) (c .before .before .before .before .before .before .before .before .before .before .before .before .before .before .before .before .before .before .before .before .before .before .before .before .before .before .before .before .before .before .before .before .level-of .ensures .0) (ap (λ (n : ℕ). c .before .before .before .before .before .before .before .before .before .before .before .before .before .before .before .before .before .before .before .before .before .before .before .before .before .before .before .before .before .before .before .before .before .before .before .before .before .before .before .args .k .count + n) (c .before .before .before .before .before .before .before .before .before .before .before .before .before .before .before .before .before .before .before .before .before .before .before .before .chain-length .ensures .0)) (c .before .before .before .before .before .before .before .before .before .before .before .before .before .before .push-chain .ensures))
+pp-chain-returns-2 t c =
+    let at-close-paren = c .before .before .before .before in
+    let at-pp-binders = at-close-paren .before .before .before .before .before .before .before in
+    let at-push-chain = at-pp-binders .before .before .before in
+    let at-put-names = at-push-chain .before .before .before .before .before .before .before in
+    let at-chain-length = at-put-names .before .before .before in
+    let at-open-paren = at-chain-length .before .before .before .before .before in
+    let at-level-of = at-open-paren .before .before .before in
+    let at-is-arrow = at-level-of .before in
+    let start = at-is-arrow .before .before .before .before .before .before .before in
+    rw
+    (at-close-paren .close-paren .ensures, at-pp-binders .pp-binders .ensures, at-put-names .put-names .ensures, at-open-paren .open-paren .ensures)
+    (chain-row-goes-on (start .pre .1 .0) _ _ _ _ _ _ _ (start .pre .1 .2) (at-is-arrow .is-arrow .ensures) (at-level-of .level-of .ensures .0)
+    (ap (λ (n : ℕ). start .args .k .count + n) (at-chain-length .chain-length .ensures .0)) (at-push-chain .push-chain .ensures))
 
--- src/exprs.rt:68:9
 pp-expr-returns : (t : ℕ) → pp-expr-lts.Need-returns (pp-expr-cs t) (pp-expr-at t) pp-expr.Post
 pp-expr-returns t c = sym (emit-stopped _ (state _ _ _) (ne-eqb _ 0 (c .if1 .taken)))
 
--- src/exprs.rt:70:9
-pp-expr-expr-word-requires : (t : ℕ) → pp-expr-lts.Need-expr-word-requires (pp-expr-cs t) (pp-expr-at t) pp-expr.Post
-pp-expr-expr-word-requires t c κs = (c .before .before .before .before .before .before .before .pre .1 .0 .pool .ready .tables .of-words, omega arith)
+pp-expr-expr-kind-requires : (t : ℕ) → pp-expr-lts.Need-expr-kind-requires (pp-expr-cs t) (pp-expr-at t) pp-expr.Post
+pp-expr-expr-kind-requires t c κs =
+    let start = c .before .before .before .before .before .before .before .before in
+    start .pre .1 .0 .pool .ready .tables .of-words
 
--- src/exprs.rt:82:13
-pp-expr-expr-word-requires-2 : (t : ℕ) → pp-expr-lts.Need-expr-word-requires-2 (pp-expr-cs t) (pp-expr-at t) pp-expr.Post
-pp-expr-expr-word-requires-2 t c κs = (c .before .before .before .before .before .before .before .before .before .before .before .pre .1 .0 .pool .ready .tables .of-words, omega arith)
+pp-expr-var-index-requires : (t : ℕ) → pp-expr-lts.Need-var-index-requires (pp-expr-cs t) (pp-expr-at t) pp-expr.Post
+pp-expr-var-index-requires t c κs =
+    let start = c .before .before .before .before .before .before .before .before .before .before in
+    start .pre .1 .0 .pool .ready .tables .of-words
 
--- src/exprs.rt:72:9
 pp-expr-pp-bvar-requires : (t : ℕ) → pp-expr-lts.Need-pp-bvar-requires (pp-expr-cs t) (pp-expr-at t) pp-expr.Post
-pp-expr-pp-bvar-requires t c κs = (c .before .before .before .before .before .before .before .before .before .before .before .before .pre .1 .0 .pool, c .before .before .before .before .before .before .before .before .before .before .before .before .pre .1 .0 .held, c .before .before .before .before .before .before .before .before .before .before .before .before .pre .1 .0 .scope, var-index (c .before .before .before .before .before .before .before .before .before .before .before .before .pre .1 .0) _ (sym (c .before .before .before .before .expr-word .ensures .0) ∙ c .before .before .before .if2 .taken) (c .expr-word2 .ensures .0))
+pp-expr-pp-bvar-requires t c κs =
+    let at-expr-kind = c .before .before .before .before in
+    let start = at-expr-kind .before .before .before .before .before .before .before .before .before in (
+      start .pre .1 .0 .pool,
+      start .pre .1 .0 .held,
+      start .pre .1 .0 .scope,
+      var-index (start .pre .1 .0) _
+          (sym (at-expr-kind .expr-kind .ensures .0) ∙ c .before .before .before .if2 .taken) (c .before .before .var-index .ensures .0),
+    )
 
--- src/exprs.rt:72:9
 pp-expr-same-length : (t : ℕ) → pp-expr-lts.Need-same-length (pp-expr-cs t) (pp-expr-at t) pp-expr.Post
-pp-expr-same-length t c = c .before .before .before .before .pp-bvar .kept .1 .1 .1 .1 .0
+pp-expr-same-length t c =
+    let at-pp-bvar = c .before .before .before .before in
+    at-pp-bvar .pp-bvar .kept .1 .1 .1 .1 .0
 
--- src/exprs.rt:72:9
 pp-expr-same-length-2 : (t : ℕ) → pp-expr-lts.Need-same-length-2 (pp-expr-cs t) (pp-expr-at t) pp-expr.Post
-pp-expr-same-length-2 t c = c .before .before .before .before .pp-bvar .kept .1 .1 .1 .1 .1 .0
+pp-expr-same-length-2 t c =
+    let at-pp-bvar = c .before .before .before .before in
+    at-pp-bvar .pp-bvar .kept .1 .1 .1 .1 .1 .0
 
--- src/exprs.rt:72:9
 pp-expr-returns-2 : (t : ℕ) → pp-expr-lts.Need-returns-2 (pp-expr-cs t) (pp-expr-at t) pp-expr.Post
-pp-expr-returns-2 t c = c .before .before .before .before .pp-bvar .ensures ∙ var-row (c .before .before .before .before .before .before .before .before .before .before .before .before .before .before .before .before .before .pre .1 .0) _ _ _ _ (sym (c .before .before .before .before .before .before .before .before .before .expr-word .ensures .0) ∙ c .before .before .before .before .before .before .before .before .if2 .taken) (c .before .before .before .before .before .expr-word2 .ensures .0) (c .before .before .before .before .before .before .before .before .before .before .before .before .before .before .before .before .before .pre .1 .1)
+pp-expr-returns-2 t c =
+    let at-pp-bvar = c .before .before .before .before in
+    let at-var-index = at-pp-bvar .before .before .before in
+    let at-if2 = at-var-index .before in
+    let at-expr-kind = at-if2 .before in
+    let start = at-expr-kind .before .before .before .before .before .before .before .before .before in
+    at-pp-bvar .pp-bvar .ensures ∙ var-row (start .pre .1 .0) _ _ _ _ (sym (at-expr-kind .expr-kind .ensures .0) ∙ at-if2 .if2 .taken) (at-var-index .var-index .ensures .0) (start .pre .1 .1)
 
--- src/exprs.rt:86:9
 pp-expr-pp-app-requires : (t : ℕ) → pp-expr-lts.Need-pp-app-requires (pp-expr-cs t) (pp-expr-at t) pp-expr.Post
-pp-expr-pp-app-requires t c κs = (omega (arith, c .before .before .before .before .before .before .before .before .before .before .before .before .pre .0), (c .before .before .before .before .before .before .before .before .before .before .before .before .pre .1 .0, c .before .before .before .before .before .before .before .before .before .before .before .before .pre .1 .1, sym (c .before .before .before .before .expr-word .ensures .0) ∙ c .before .before .if3 .taken))
+pp-expr-pp-app-requires t c κs =
+    let at-expr-kind = c .before .before .before .before in
+    let start = at-expr-kind .before .before .before .before .before .before .before .before .before in
+    (omega (arith, start .pre .0), (start .pre .1 .0, start .pre .1 .1, sym (at-expr-kind .expr-kind .ensures .0) ∙ c .before .before .if3 .taken))
 
--- src/exprs.rt:86:9
 pp-expr-same-length-3 : (t : ℕ) → pp-expr-lts.Need-same-length-3 (pp-expr-cs t) (pp-expr-at t) pp-expr.Post
-pp-expr-same-length-3 t c = c .before .before .before .before .pp-app .kept .1 .1 .1 .1 .0
+pp-expr-same-length-3 t c =
+    let at-pp-app = c .before .before .before .before in
+    at-pp-app .pp-app .kept .1 .1 .1 .1 .0
 
--- src/exprs.rt:86:9
 pp-expr-same-length-4 : (t : ℕ) → pp-expr-lts.Need-same-length-4 (pp-expr-cs t) (pp-expr-at t) pp-expr.Post
-pp-expr-same-length-4 t c = c .before .before .before .before .pp-app .kept .1 .1 .1 .1 .1 .0
+pp-expr-same-length-4 t c =
+    let at-pp-app = c .before .before .before .before in
+    at-pp-app .pp-app .kept .1 .1 .1 .1 .1 .0
 
--- src/exprs.rt:86:9
 pp-expr-returns-3 : (t : ℕ) → pp-expr-lts.Need-returns-3 (pp-expr-cs t) (pp-expr-at t) pp-expr.Post
-pp-expr-returns-3 t c = c .before .before .before .before .pp-app .ensures
+pp-expr-returns-3 t c =
+    let at-pp-app = c .before .before .before .before in
+    at-pp-app .pp-app .ensures
 
--- src/exprs.rt:102:9
 pp-expr-pp-let-requires : (t : ℕ) → pp-expr-lts.Need-pp-let-requires (pp-expr-cs t) (pp-expr-at t) pp-expr.Post
-pp-expr-pp-let-requires t c κs = (omega (arith, c .before .before .before .before .before .before .before .before .before .before .before .before .before .pre .0), (c .before .before .before .before .before .before .before .before .before .before .before .before .before .pre .1 .0, c .before .before .before .before .before .before .before .before .before .before .before .before .before .pre .1 .1, sym (c .before .before .before .before .before .expr-word .ensures .0) ∙ c .before .before .if4 .taken))
+pp-expr-pp-let-requires t c κs =
+    let at-expr-kind = c .before .before .before .before .before in
+    let start = at-expr-kind .before .before .before .before .before .before .before .before .before in
+    (omega (arith, start .pre .0), (start .pre .1 .0, start .pre .1 .1, sym (at-expr-kind .expr-kind .ensures .0) ∙ c .before .before .if4 .taken))
 
--- src/exprs.rt:102:9
 pp-expr-same-length-5 : (t : ℕ) → pp-expr-lts.Need-same-length-5 (pp-expr-cs t) (pp-expr-at t) pp-expr.Post
-pp-expr-same-length-5 t c = c .before .before .before .before .pp-let .kept .1 .1 .1 .1 .0
+pp-expr-same-length-5 t c =
+    let at-pp-let = c .before .before .before .before in
+    at-pp-let .pp-let .kept .1 .1 .1 .1 .0
 
--- src/exprs.rt:102:9
 pp-expr-same-length-6 : (t : ℕ) → pp-expr-lts.Need-same-length-6 (pp-expr-cs t) (pp-expr-at t) pp-expr.Post
-pp-expr-same-length-6 t c = c .before .before .before .before .pp-let .kept .1 .1 .1 .1 .1 .0
+pp-expr-same-length-6 t c =
+    let at-pp-let = c .before .before .before .before in
+    at-pp-let .pp-let .kept .1 .1 .1 .1 .1 .0
 
--- src/exprs.rt:102:9
 pp-expr-returns-4 : (t : ℕ) → pp-expr-lts.Need-returns-4 (pp-expr-cs t) (pp-expr-at t) pp-expr.Post
-pp-expr-returns-4 t c = c .before .before .before .before .pp-let .ensures
+pp-expr-returns-4 t c =
+    let at-pp-let = c .before .before .before .before in
+    at-pp-let .pp-let .ensures
 
--- src/exprs.rt:118:9
 pp-expr-pp-proj-requires : (t : ℕ) → pp-expr-lts.Need-pp-proj-requires (pp-expr-cs t) (pp-expr-at t) pp-expr.Post
-pp-expr-pp-proj-requires t c κs = (omega (arith, c .before .before .before .before .before .before .before .before .before .before .before .before .before .before .pre .0), (c .before .before .before .before .before .before .before .before .before .before .before .before .before .before .pre .1 .0, sym (c .before .before .before .before .before .before .expr-word .ensures .0) ∙ c .before .before .if5 .taken))
+pp-expr-pp-proj-requires t c κs =
+    let at-expr-kind = c .before .before .before .before .before .before in
+    let start = at-expr-kind .before .before .before .before .before .before .before .before .before in
+    (omega (arith, start .pre .0), (start .pre .1 .0, sym (at-expr-kind .expr-kind .ensures .0) ∙ c .before .before .if5 .taken))
 
--- src/exprs.rt:118:9
 pp-expr-same-length-7 : (t : ℕ) → pp-expr-lts.Need-same-length-7 (pp-expr-cs t) (pp-expr-at t) pp-expr.Post
-pp-expr-same-length-7 t c = c .before .before .before .before .pp-proj .kept .1 .1 .1 .1 .0
+pp-expr-same-length-7 t c =
+    let at-pp-proj = c .before .before .before .before in
+    at-pp-proj .pp-proj .kept .1 .1 .1 .1 .0
 
--- src/exprs.rt:118:9
 pp-expr-same-length-8 : (t : ℕ) → pp-expr-lts.Need-same-length-8 (pp-expr-cs t) (pp-expr-at t) pp-expr.Post
-pp-expr-same-length-8 t c = c .before .before .before .before .pp-proj .kept .1 .1 .1 .1 .1 .0
+pp-expr-same-length-8 t c =
+    let at-pp-proj = c .before .before .before .before in
+    at-pp-proj .pp-proj .kept .1 .1 .1 .1 .1 .0
 
--- src/exprs.rt:118:9
 pp-expr-returns-5 : (t : ℕ) → pp-expr-lts.Need-returns-5 (pp-expr-cs t) (pp-expr-at t) pp-expr.Post
-pp-expr-returns-5 t c = c .before .before .before .before .pp-proj .ensures ∙ proj-level (c .before .before .before .before .before .before .before .before .before .before .before .before .before .before .before .before .before .before .before .pre .1 .0) _ _ _ (sym (c .before .before .before .before .before .before .before .before .before .before .before .expr-word .ensures .0) ∙ c .before .before .before .before .before .before .before .if5 .taken) (c .before .before .before .before .before .before .before .before .before .before .before .before .before .before .before .before .before .before .before .pre .1 .1)
+pp-expr-returns-5 t c =
+    let at-pp-proj = c .before .before .before .before in
+    let at-if5 = at-pp-proj .before .before .before in
+    let at-expr-kind = at-if5 .before .before .before .before in
+    let start = at-expr-kind .before .before .before .before .before .before .before .before .before in
+    at-pp-proj .pp-proj .ensures ∙ proj-level (start .pre .1 .0) _ _ _ (sym (at-expr-kind .expr-kind .ensures .0) ∙ at-if5 .if5 .taken) (start .pre .1 .1)
 
--- src/exprs.rt:120:8
 pp-expr-is-binder-requires : (t : ℕ) → pp-expr-lts.Need-is-binder-requires (pp-expr-cs t) (pp-expr-at t) pp-expr.Post
 pp-expr-is-binder-requires t c κs = search needs
 
--- src/exprs.rt:121:9
 pp-expr-pp-chain-requires : (t : ℕ) → pp-expr-lts.Need-pp-chain-requires (pp-expr-cs t) (pp-expr-at t) pp-expr.Post
-pp-expr-pp-chain-requires t c κs = (omega (arith, c .before .before .before .before .before .before .before .before .before .before .before .before .before .before .before .before .pre .0), (c .before .before .before .before .before .before .before .before .before .before .before .before .before .before .before .before .pre .1 .0, c .before .before .before .before .before .before .before .before .before .before .before .before .before .before .before .before .pre .1 .1, ap binderKind (sym (c .before .before .before .before .before .before .before .before .expr-word .ensures .0)) ∙ sym (c .before .before .before .is-binder .ensures) ∙ c .before .before .if6 .taken))
+pp-expr-pp-chain-requires t c κs =
+    let at-expr-kind = c .before .before .before .before .before .before .before .before in
+    let start = at-expr-kind .before .before .before .before .before .before .before .before .before in (
+      omega (arith, start .pre .0),
+      (
+        start .pre .1 .0,
+        start .pre .1 .1,
+        ap binderKind (sym
+            (at-expr-kind .expr-kind .ensures .0)) ∙ sym (c .before .before .before .is-binder .ensures) ∙ c .before .before .if6 .taken,
+      ),
+    )
 
--- src/exprs.rt:121:9
 pp-expr-same-length-9 : (t : ℕ) → pp-expr-lts.Need-same-length-9 (pp-expr-cs t) (pp-expr-at t) pp-expr.Post
-pp-expr-same-length-9 t c = c .before .before .before .before .pp-chain .kept .1 .1 .1 .1 .0
+pp-expr-same-length-9 t c =
+    let at-pp-chain = c .before .before .before .before in
+    at-pp-chain .pp-chain .kept .1 .1 .1 .1 .0
 
--- src/exprs.rt:121:9
 pp-expr-same-length-10 : (t : ℕ) → pp-expr-lts.Need-same-length-10 (pp-expr-cs t) (pp-expr-at t) pp-expr.Post
-pp-expr-same-length-10 t c = c .before .before .before .before .pp-chain .kept .1 .1 .1 .1 .1 .0
+pp-expr-same-length-10 t c =
+    let at-pp-chain = c .before .before .before .before in
+    at-pp-chain .pp-chain .kept .1 .1 .1 .1 .1 .0
 
--- src/exprs.rt:121:9
 pp-expr-returns-6 : (t : ℕ) → pp-expr-lts.Need-returns-6 (pp-expr-cs t) (pp-expr-at t) pp-expr.Post
-pp-expr-returns-6 t c = c .before .before .before .before .pp-chain .ensures
+pp-expr-returns-6 t c =
+    let at-pp-chain = c .before .before .before .before in
+    at-pp-chain .pp-chain .ensures
 
--- src/exprs.rt:136:5
 pp-expr-pp-leaf-requires : (t : ℕ) → pp-expr-lts.Need-pp-leaf-requires (pp-expr-cs t) (pp-expr-at t) pp-expr.Post
-pp-expr-pp-leaf-requires t c κs = (c .before .before .before .before .before .before .before .before .before .before .before .before .before .before .before .before .pre .1 .0 .pool, c .before .before .before .before .before .before .before .before .before .before .before .before .before .before .before .before .pre .1 .0 .row, other-kinds _ (kind-of (c .before .before .before .before .before .before .before .before .before .before .before .before .before .before .before .before .pre .1 .0)) (λ e. c .before .before .before .before .before .before .before .if2 .left (c .before .before .before .before .before .before .before .before .expr-word .ensures .0 ∙ e)) (λ e. c .before .before .before .before .before .before .if3 .left (c .before .before .before .before .before .before .before .before .expr-word .ensures .0 ∙ e)) (λ e. c .before .before .before .before .before .if4 .left (c .before .before .before .before .before .before .before .before .expr-word .ensures .0 ∙ e)) (λ e. c .before .before .before .before .if5 .left (c .before .before .before .before .before .before .before .before .expr-word .ensures .0 ∙ e)) (ap binderKind (sym (c .before .before .before .before .before .before .before .before .expr-word .ensures .0)) ∙ sym (c .before .before .before .is-binder .ensures) ∙ c .before .before .if6 .left))
+pp-expr-pp-leaf-requires t c κs =
+    let at-if5 = c .before .before .before .before in
+    let at-if4 = at-if5 .before in
+    let at-if3 = at-if4 .before in
+    let at-if2 = at-if3 .before in
+    let at-expr-kind = at-if2 .before in
+    let start = at-expr-kind .before .before .before .before .before .before .before .before .before in (
+      start .pre .1 .0 .pool,
+      start .pre .1 .0 .row,
+      other-kinds _ (kind-of (start .pre .1 .0))
+          (λ e. at-if2 .if2 .left (at-expr-kind .expr-kind .ensures .0 ∙ e)) (λ e. at-if3 .if3 .left (at-expr-kind .expr-kind .ensures .0 ∙ e))
+          (λ e. at-if4 .if4 .left (at-expr-kind .expr-kind .ensures .0 ∙ e)) (λ e. at-if5 .if5 .left (at-expr-kind .expr-kind .ensures .0 ∙ e))
+          (ap binderKind (sym
+          (at-expr-kind .expr-kind .ensures .0)) ∙ sym (c .before .before .before .is-binder .ensures) ∙ c .before .before .if6 .left),
+    )
 
--- src/exprs.rt:50:1
 pp-expr-same-length-11 : (t : ℕ) → pp-expr-lts.Need-same-length-11 (pp-expr-cs t) (pp-expr-at t) pp-expr.Post
-pp-expr-same-length-11 t c = c .before .before .before .before .pp-leaf .kept .1 .1 .1 .1 .0
+pp-expr-same-length-11 t c =
+    let at-pp-leaf = c .before .before .before .before in
+    at-pp-leaf .pp-leaf .kept .1 .1 .1 .1 .0
 
--- src/exprs.rt:50:1
 pp-expr-same-length-12 : (t : ℕ) → pp-expr-lts.Need-same-length-12 (pp-expr-cs t) (pp-expr-at t) pp-expr.Post
-pp-expr-same-length-12 t c = c .before .before .before .before .pp-leaf .kept .1 .1 .1 .1 .1 .0
+pp-expr-same-length-12 t c =
+    let at-pp-leaf = c .before .before .before .before in
+    at-pp-leaf .pp-leaf .kept .1 .1 .1 .1 .1 .0
 
--- src/exprs.rt:50:1
 pp-expr-returns-7 : (t : ℕ) → pp-expr-lts.Need-returns-7 (pp-expr-cs t) (pp-expr-at t) pp-expr.Post
-pp-expr-returns-7 t c = c .before .before .before .before .pp-leaf .ensures ∙ leaf-row (c .before .before .before .before .before .before .before .before .before .before .before .before .before .before .before .before .before .before .before .before .before .pre .1 .0) _ _ _ (other-kinds _ (kind-of (c .before .before .before .before .before .before .before .before .before .before .before .before .before .before .before .before .before .before .before .before .before .pre .1 .0)) (λ e. c .before .before .before .before .before .before .before .before .before .before .before .before .if2 .left (c .before .before .before .before .before .before .before .before .before .before .before .before .before .expr-word .ensures .0 ∙ e)) (λ e. c .before .before .before .before .before .before .before .before .before .before .before .if3 .left (c .before .before .before .before .before .before .before .before .before .before .before .before .before .expr-word .ensures .0 ∙ e)) (λ e. c .before .before .before .before .before .before .before .before .before .before .if4 .left (c .before .before .before .before .before .before .before .before .before .before .before .before .before .expr-word .ensures .0 ∙ e)) (λ e. c .before .before .before .before .before .before .before .before .before .if5 .left (c .before .before .before .before .before .before .before .before .before .before .before .before .before .expr-word .ensures .0 ∙ e)) (ap binderKind (sym (c .before .before .before .before .before .before .before .before .before .before .before .before .before .expr-word .ensures .0)) ∙ sym (c .before .before .before .before .before .before .before .before .is-binder .ensures) ∙ c .before .before .before .before .before .before .before .if6 .left)) (c .before .before .before .before .before .before .before .before .before .before .before .before .before .before .before .before .before .before .before .before .before .pre .1 .1)
+pp-expr-returns-7 t c =
+    let at-pp-leaf = c .before .before .before .before in
+    let at-if6 = at-pp-leaf .before .before .before in
+    let at-is-binder = at-if6 .before in
+    let at-if5 = at-is-binder .before in
+    let at-if4 = at-if5 .before in
+    let at-if3 = at-if4 .before in
+    let at-if2 = at-if3 .before in
+    let at-expr-kind = at-if2 .before in
+    let start = at-expr-kind .before .before .before .before .before .before .before .before .before in
+    at-pp-leaf .pp-leaf .ensures
+    ∙ leaf-row (start .pre .1 .0) _ _ _ (other-kinds _ (kind-of (start .pre .1 .0))
+    (λ e. at-if2 .if2 .left (at-expr-kind .expr-kind .ensures .0 ∙ e)) (λ e. at-if3 .if3 .left (at-expr-kind .expr-kind .ensures .0 ∙ e))
+    (λ e. at-if4 .if4 .left (at-expr-kind .expr-kind .ensures .0 ∙ e)) (λ e. at-if5 .if5 .left (at-expr-kind .expr-kind .ensures .0 ∙ e))
+    (ap binderKind (sym (at-expr-kind .expr-kind .ensures .0)) ∙ sym (at-is-binder .is-binder .ensures) ∙ at-if6 .if6 .left)) (start .pre .1 .1)
 
--- src/exprs.rt:234:8
-pp-head-expr-word-requires : (t : ℕ) → pp-head-lts.Need-expr-word-requires (pp-head-cs t) (pp-head-at t) pp-head.Post
-pp-head-expr-word-requires t c κs = (c .before .before .before .before .before .pre .1 .pool .ready .tables .of-words, omega arith)
+pp-head-expr-kind-requires : (t : ℕ) → pp-head-lts.Need-expr-kind-requires (pp-head-cs t) (pp-head-at t) pp-head.Post
+pp-head-expr-kind-requires t c κs =
+    let start = c .before .before .before .before .before in
+    start .pre .1 .pool .ready .tables .of-words
 
--- src/exprs.rt:235:9
 pp-head-pp-spine-requires : (t : ℕ) → pp-head-lts.Need-pp-spine-requires (pp-head-cs t) (pp-head-at t) pp-head.Post
-pp-head-pp-spine-requires t c κs = (omega (arith, c .before .before .before .before .before .before .before .before .before .pre .0), (c .before .before .before .before .before .before .before .before .before .pre .1, sym (c .before .before .before .expr-word .ensures .0) ∙ c .before .before .if1 .taken))
+pp-head-pp-spine-requires t c κs =
+    let start = c .before .before .before .before .before .before .before .before .before in
+    (omega (arith, start .pre .0), (start .pre .1, sym (c .before .before .before .expr-kind .ensures .0) ∙ c .before .before .if1 .taken))
 
--- src/exprs.rt:235:9
 pp-head-same-length : (t : ℕ) → pp-head-lts.Need-same-length (pp-head-cs t) (pp-head-at t) pp-head.Post
-pp-head-same-length t c = c .before .before .before .before .pp-spine .kept .1 .1 .1 .1 .0
+pp-head-same-length t c =
+    let at-pp-spine = c .before .before .before .before in
+    at-pp-spine .pp-spine .kept .1 .1 .1 .1 .0
 
--- src/exprs.rt:235:9
 pp-head-same-length-2 : (t : ℕ) → pp-head-lts.Need-same-length-2 (pp-head-cs t) (pp-head-at t) pp-head.Post
-pp-head-same-length-2 t c = c .before .before .before .before .pp-spine .kept .1 .1 .1 .1 .1 .0
+pp-head-same-length-2 t c =
+    let at-pp-spine = c .before .before .before .before in
+    at-pp-spine .pp-spine .kept .1 .1 .1 .1 .1 .0
 
--- src/exprs.rt:235:9
 pp-head-returns : (t : ℕ) → pp-head-lts.Need-returns (pp-head-cs t) (pp-head-at t) pp-head.Post
-pp-head-returns t c = c .before .before .before .before .pp-spine .ensures
+pp-head-returns t c =
+    let at-pp-spine = c .before .before .before .before in
+    at-pp-spine .pp-spine .ensures
 
--- src/exprs.rt:237:9
 pp-head-pp-expr-requires : (t : ℕ) → pp-head-lts.Need-pp-expr-requires (pp-head-cs t) (pp-head-at t) pp-head.Post
-pp-head-pp-expr-requires t c κs = (omega (arith, c .before .before .before .before .before .before .before .before .before .pre .0), (c .before .before .before .before .before .before .before .before .before .pre .1, omega arith))
+pp-head-pp-expr-requires t c κs =
+    let start = c .before .before .before .before .before .before .before .before .before in
+    (omega (arith, start .pre .0), (start .pre .1, omega arith))
 
--- src/exprs.rt:251:5
 pp-head-put-group-requires : (t : ℕ) → pp-head-lts.Need-put-group-requires (pp-head-cs t) (pp-head-at t) pp-head.Post
 pp-head-put-group-requires t c κs = search needs
 
--- src/exprs.rt:218:1
 pp-head-same-length-3 : (t : ℕ) → pp-head-lts.Need-same-length-3 (pp-head-cs t) (pp-head-at t) pp-head.Post
-pp-head-same-length-3 t c = c .before .before .before .before .put-group .kept .0 ∙ c .before .before .before .before .before .before .before .before .before .before .before .pp-expr .kept .1 .1 .1 .1 .0
+pp-head-same-length-3 t c =
+    let at-put-group = c .before .before .before .before in
+    let at-pp-expr = at-put-group .before .before .before .before .before .before .before in
+    at-put-group .put-group .kept .0 ∙ at-pp-expr .pp-expr .kept .1 .1 .1 .1 .0
 
--- src/exprs.rt:218:1
 pp-head-same-length-4 : (t : ℕ) → pp-head-lts.Need-same-length-4 (pp-head-cs t) (pp-head-at t) pp-head.Post
-pp-head-same-length-4 t c = c .before .before .before .before .put-group .kept .1 .0 ∙ c .before .before .before .before .before .before .before .before .before .before .before .pp-expr .kept .1 .1 .1 .1 .1 .0
+pp-head-same-length-4 t c =
+    let at-put-group = c .before .before .before .before in
+    let at-pp-expr = at-put-group .before .before .before .before .before .before .before in
+    at-put-group .put-group .kept .1 .0 ∙ at-pp-expr .pp-expr .kept .1 .1 .1 .1 .1 .0
 
--- src/exprs.rt:218:1
 pp-head-returns-2 : (t : ℕ) → pp-head-lts.Need-returns-2 (pp-head-cs t) (pp-head-at t) pp-head.Post
-pp-head-returns-2 t c = rw (c .before .before .before .before .put-group .ensures, c .before .before .before .before .before .before .before .before .before .before .before .pp-expr .ensures) (head-row (c .before .before .before .before .before .before .before .before .before .before .before .before .before .before .before .before .before .before .before .before .before .pre .1) _ _ (λ e. c .before .before .before .before .before .before .before .before .before .before .before .before .before .before .if1 .left (c .before .before .before .before .before .before .before .before .before .before .before .before .before .before .before .expr-word .ensures .0 ∙ e)))
+pp-head-returns-2 t c =
+    let at-put-group = c .before .before .before .before in
+    let at-pp-expr = at-put-group .before .before .before .before .before .before .before in
+    let at-if1 = at-pp-expr .before .before .before in
+    let at-expr-kind = at-if1 .before in
+    let start = at-expr-kind .before .before .before .before .before .before in
+    rw (at-put-group .put-group .ensures, at-pp-expr .pp-expr .ensures) (head-row (start .pre .1) _ _ (λ e. at-if1 .if1 .left (at-expr-kind .expr-kind .ensures .0 ∙ e)))
 
--- src/exprs.rt:307:9
 pp-let-open-paren-requires : (t : ℕ) → pp-let-lts.Need-open-paren-requires (pp-let-cs t) (pp-let-at t) pp-let.Post
 pp-let-open-paren-requires t c κs = search needs
 
--- src/exprs.rt:308:9
 pp-let-pp-let-head-requires : (t : ℕ) → pp-let-lts.Need-pp-let-head-requires (pp-let-cs t) (pp-let-at t) pp-let.Post
-pp-let-pp-let-head-requires t c κs = (omega (arith, c .before .before .before .before .before .before .before .before .before .before .before .before .before .before .pre .0), (c .before .before .before .before .before .before .before .before .before .before .before .before .before .before .pre .1 .0, c .before .before .before .before .before .before .before .before .before .before .before .before .before .before .pre .1 .2))
+pp-let-pp-let-head-requires t c κs =
+    let start = c .before .before .before .before .before .before .before .before .before .before .before .before .before .before in
+    (omega (arith, start .pre .0), (start .pre .1 .0, start .pre .1 .2))
 
--- src/exprs.rt:309:9
 pp-let-pp-let-body-requires : (t : ℕ) → pp-let-lts.Need-pp-let-body-requires (pp-let-cs t) (pp-let-at t) pp-let.Post
-pp-let-pp-let-body-requires t c κs = (omega (arith, c .before .before .before .before .before .before .before .before .before .before .before .before .before .before .before .before .before .before .before .before .before .pre .0), (c .before .before .before .before .before .before .before .before .before .before .before .before .before .before .before .before .before .before .before .before .before .pre .1 .0, c .before .before .before .before .before .before .before .before .before .before .before .before .before .before .before .before .before .before .before .before .before .pre .1 .2))
+pp-let-pp-let-body-requires t c κs =
+    let start = c .before .before .before .before .before .before .before .before .before .before .before .before .before .before .before .before .before .before .before .before .before in
+    (omega (arith, start .pre .0), (start .pre .1 .0, start .pre .1 .2))
 
--- src/exprs.rt:310:9
 pp-let-put-join-requires : (t : ℕ) → pp-let-lts.Need-put-join-requires (pp-let-cs t) (pp-let-at t) pp-let.Post
 pp-let-put-join-requires t c κs = search needs
 
--- src/exprs.rt:311:9
 pp-let-put-group-requires : (t : ℕ) → pp-let-lts.Need-put-group-requires (pp-let-cs t) (pp-let-at t) pp-let.Post
 pp-let-put-group-requires t c κs = search needs
 
--- src/exprs.rt:312:5
 pp-let-close-paren-requires : (t : ℕ) → pp-let-lts.Need-close-paren-requires (pp-let-cs t) (pp-let-at t) pp-let.Post
 pp-let-close-paren-requires t c κs = search needs
 
--- src/exprs.rt:289:1
 pp-let-same-length : (t : ℕ) → pp-let-lts.Need-same-length (pp-let-cs t) (pp-let-at t) pp-let.Post
-pp-let-same-length t c = c .before .before .before .before .close-paren .kept .0 ∙ c .before .before .before .before .before .before .before .before .before .before .before .put-group .kept .0 ∙ c .before .before .before .before .before .before .before .before .before .before .before .before .before .before .before .before .before .before .put-join .kept .0 ∙ c .before .before .before .before .before .before .before .before .before .before .before .before .before .before .before .before .before .before .before .before .before .before .before .before .before .pp-let-body .kept .1 .1 .1 .1 .0 ∙ c .before .before .before .before .before .before .before .before .before .before .before .before .before .before .before .before .before .before .before .before .before .before .before .before .before .before .before .before .before .before .before .before .pp-let-head .kept .1 .1 .1 .1 .0 ∙ c .before .before .before .before .before .before .before .before .before .before .before .before .before .before .before .before .before .before .before .before .before .before .before .before .before .before .before .before .before .before .before .before .before .before .before .before .before .before .before .open-paren .kept .0
+pp-let-same-length t c =
+    let at-close-paren = c .before .before .before .before in
+    let at-put-group = at-close-paren .before .before .before .before .before .before .before in
+    let at-put-join = at-put-group .before .before .before .before .before .before .before in
+    let at-pp-let-body = at-put-join .before .before .before .before .before .before .before in
+    let at-pp-let-head = at-pp-let-body .before .before .before .before .before .before .before in
+    let at-open-paren = at-pp-let-head .before .before .before .before .before .before .before in
+    at-close-paren .close-paren .kept .0 ∙ at-put-group .put-group .kept .0 ∙ at-put-join .put-join .kept .0
+    ∙ at-pp-let-body .pp-let-body .kept .1 .1 .1 .1 .0 ∙ at-pp-let-head .pp-let-head .kept .1 .1 .1 .1 .0 ∙ at-open-paren .open-paren .kept .0
 
--- src/exprs.rt:289:1
 pp-let-same-length-2 : (t : ℕ) → pp-let-lts.Need-same-length-2 (pp-let-cs t) (pp-let-at t) pp-let.Post
-pp-let-same-length-2 t c = c .before .before .before .before .close-paren .kept .1 .0 ∙ c .before .before .before .before .before .before .before .before .before .before .before .put-group .kept .1 .0 ∙ c .before .before .before .before .before .before .before .before .before .before .before .before .before .before .before .before .before .before .put-join .kept .1 .0 ∙ c .before .before .before .before .before .before .before .before .before .before .before .before .before .before .before .before .before .before .before .before .before .before .before .before .before .pp-let-body .kept .1 .1 .1 .1 .1 .0 ∙ c .before .before .before .before .before .before .before .before .before .before .before .before .before .before .before .before .before .before .before .before .before .before .before .before .before .before .before .before .before .before .before .before .pp-let-head .kept .1 .1 .1 .1 .1 .0 ∙ c .before .before .before .before .before .before .before .before .before .before .before .before .before .before .before .before .before .before .before .before .before .before .before .before .before .before .before .before .before .before .before .before .before .before .before .before .before .before .before .open-paren .kept .1 .0
+pp-let-same-length-2 t c =
+    let at-close-paren = c .before .before .before .before in
+    let at-put-group = at-close-paren .before .before .before .before .before .before .before in
+    let at-put-join = at-put-group .before .before .before .before .before .before .before in
+    let at-pp-let-body = at-put-join .before .before .before .before .before .before .before in
+    let at-pp-let-head = at-pp-let-body .before .before .before .before .before .before .before in
+    let at-open-paren = at-pp-let-head .before .before .before .before .before .before .before in
+    at-close-paren .close-paren .kept .1 .0 ∙ at-put-group .put-group .kept .1 .0 ∙ at-put-join .put-join .kept .1 .0
+    ∙ at-pp-let-body .pp-let-body .kept .1 .1 .1 .1 .1 .0 ∙ at-pp-let-head .pp-let-head .kept .1 .1 .1 .1 .1 .0
+    ∙ at-open-paren .open-paren .kept .1 .0
 
--- src/exprs.rt:289:1
 pp-let-returns : (t : ℕ) → pp-let-lts.Need-returns (pp-let-cs t) (pp-let-at t) pp-let.Post
-pp-let-returns t c = rw (c .before .before .before .before .close-paren .ensures, c .before .before .before .before .before .before .before .before .before .before .before .put-group .ensures, c .before .before .before .before .before .before .before .before .before .before .before .before .before .before .before .before .before .before .put-join .ensures, c .before .before .before .before .before .before .before .before .before .before .before .before .before .before .before .before .before .before .before .before .before .before .before .before .before .pp-let-body .ensures, c .before .before .before .before .before .before .before .before .before .before .before .before .before .before .before .before .before .before .before .before .before .before .before .before .before .before .before .before .before .before .before .before .pp-let-head .ensures, c .before .before .before .before .before .before .before .before .before .before .before .before .before .before .before .before .before .before .before .before .before .before .before .before .before .before .before .before .before .before .before .before .before .before .before .before .before .before .before .open-paren .ensures) (let-row (c .before .before .before .before .before .before .before .before .before .before .before .before .before .before .before .before .before .before .before .before .before .before .before .before .before .before .before .before .before .before .before .before .before .before .before .before .before .before .before .before .before .before .before .before .before .before .before .pre .1 .0) _ _ _ (c .before .before .before .before .before .before .before .before .before .before .before .before .before .before .before .before .before .before .before .before .before .before .before .before .before .before .before .before .before .before .before .before .before .before .before .before .before .before .before .before .before .before .before .before .before .before .before .pre .1 .2))
+pp-let-returns t c =
+    let at-close-paren = c .before .before .before .before in
+    let at-put-group = at-close-paren .before .before .before .before .before .before .before in
+    let at-put-join = at-put-group .before .before .before .before .before .before .before in
+    let at-pp-let-body = at-put-join .before .before .before .before .before .before .before in
+    let at-pp-let-head = at-pp-let-body .before .before .before .before .before .before .before in
+    let at-open-paren = at-pp-let-head .before .before .before .before .before .before .before in
+    let start = at-open-paren .before .before .before .before .before .before .before .before in
+    rw (
+      at-close-paren .close-paren .ensures,
+      at-put-group .put-group .ensures,
+      at-put-join .put-join .ensures,
+      at-pp-let-body .pp-let-body .ensures,
+      at-pp-let-head .pp-let-head .ensures,
+      at-open-paren .open-paren .ensures,
+    ) (let-row (start .pre .1 .0) _ _ _ (start .pre .1 .2))
 
--- src/exprs.rt:393:17
 pp-let-body-add-count : (t : ℕ) → pp-let-body-lts.Need-add-count (pp-let-body-cs t) (pp-let-body-at t) pp-let-body.Post
-pp-let-body-add-count t c = omega (arith, c .before .before .before .before .before .before .pre .1 .0 .held .linked .small)
+pp-let-body-add-count t c =
+    let start = c .before .before .before .before .before .before .before in
+    omega (arith, start .pre .1 .0 .held .linked .small)
 
--- src/exprs.rt:394:9
 pp-let-body-put-names-requires : (t : ℕ) → pp-let-body-lts.Need-put-names-requires (pp-let-body-cs t) (pp-let-body-at t) pp-let-body.Post
 pp-let-body-put-names-requires t c κs = search needs
 
--- src/exprs.rt:396:9
 pp-let-body-same-length : (t : ℕ) → pp-let-body-lts.Need-same-length (pp-let-body-cs t) (pp-let-body-at t) pp-let-body.Post
-pp-let-body-same-length t c = c .before .before .before .before .before .before .put-names .kept .0
+pp-let-body-same-length t c =
+    let at-put-names = c .before .before .before .before .before .before in
+    at-put-names .put-names .kept .0
 
--- src/exprs.rt:396:9
 pp-let-body-same-length-2 : (t : ℕ) → pp-let-body-lts.Need-same-length-2 (pp-let-body-cs t) (pp-let-body-at t) pp-let-body.Post
-pp-let-body-same-length-2 t c = c .before .before .before .before .before .before .put-names .kept .1 .0
+pp-let-body-same-length-2 t c =
+    let at-put-names = c .before .before .before .before .before .before in
+    at-put-names .put-names .kept .1 .0
 
--- src/exprs.rt:396:9
 pp-let-body-returns : (t : ℕ) → pp-let-body-lts.Need-returns (pp-let-body-cs t) (pp-let-body-at t) pp-let-body.Post
-pp-let-body-returns t c = c .before .before .before .before .before .before .put-names .ensures ∙ let-stops (c .before .before .before .before .before .before .before .before .before .before .before .before .before .before .before .pre .1 .0) _ _ _ _ _ refl (ap (λ (st : State). eqb (sinkOf st .stop) 0) (sym (c .before .before .before .before .before .before .put-names .ensures)) ∙ ne-eqb _ 0 (c .if1 .taken))
+pp-let-body-returns t c =
+    let at-put-names = c .before .before .before .before .before .before in
+    let start = at-put-names .before .before .before .before .before .before .before .before .before .before in
+    at-put-names .put-names .ensures
+    ∙ let-stops (start .pre .1 .0) _ _ _ _ _ refl (ap (λ (st : State). eqb (sinkOf st .stop) 0) (sym (at-put-names .put-names .ensures))
+    ∙ ne-eqb _ 0 (c .if1 .taken))
 
--- src/exprs.rt:398:20
-pp-let-body-expr-word-requires : (t : ℕ) → pp-let-body-lts.Need-expr-word-requires (pp-let-body-cs t) (pp-let-body-at t) pp-let-body.Post
-pp-let-body-expr-word-requires t c κs = (c .before .before .before .before .before .before .before .before .before .before .before .before .before .before .before .pre .1 .0 .pool .ready .tables .of-words, omega arith)
+pp-let-body-let-name-requires : (t : ℕ) → pp-let-body-lts.Need-let-name-requires (pp-let-body-cs t) (pp-let-body-at t) pp-let-body.Post
+pp-let-body-let-name-requires t c κs =
+    let start = c .before .before .before .before .before .before .before .before .before .before .before .before .before .before .before .before in
+    start .pre .1 .0 .pool .ready .tables .of-words
 
--- src/exprs.rt:398:9
 pp-let-body-push-requires : (t : ℕ) → pp-let-body-lts.Need-push-requires (pp-let-body-cs t) (pp-let-body-at t) pp-let-body.Post
-pp-let-body-push-requires t c κs = let fits = names-fit _ _ _ (ap (λ (st : State). eqb (sinkOf st .stop) 0) (sym (c .before .before .before .before .before .before .before .put-names .ensures)) ∙ eq-eqb _ 0 (c .before .if1 .left)) in
-    let name = let-name (c .before .before .before .before .before .before .before .before .before .before .before .before .before .before .before .before .pre .1 .0) _ (c .before .before .before .before .before .before .before .before .before .before .before .before .before .before .before .before .pre .1 .1) (c .expr-word .ensures .0) in
-    (omega (arith, fits), omega (arith, name, c .before .before .before .before .before .before .before .before .before .before .before .before .before .before .before .before .pre .1 .0 .pool .few), omega (arith, c .before .before .before .before .before .before .before .before .before .before .before .before .before .before .before .before .pre .1 .0 .scope, c .before .before .before .before .before .before .before .before .before .before .before .before .before .before .before .before .pre .1 .0 .held .linked .small))
+pp-let-body-push-requires t c κs =
+    let at-put-names = c .before .before .before .before .before .before .before in
+    let start = at-put-names .before .before .before .before .before .before .before .before .before .before in
+    let fits = names-fit _ _ _ (ap (λ (st : State). eqb (sinkOf st .stop) 0) (sym (at-put-names .put-names .ensures)) ∙ eq-eqb _ 0 (c .before .if1 .left)) in
+    let name = let-name (start .pre .1 .0) _ (start .pre .1 .1) (c .let-name .ensures .0) in
+    (omega (arith, fits), omega (arith, name, start .pre .1 .0 .pool .few), omega (arith, start .pre .1 .0 .scope, start .pre .1 .0 .held .linked .small))
 
--- src/exprs.rt:409:9
-pp-let-body-expr-word-requires-2 : (t : ℕ) → pp-let-body-lts.Need-expr-word-requires-2 (pp-let-body-cs t) (pp-let-body-at t) pp-let-body.Post
-pp-let-body-expr-word-requires-2 t c κs = (c .before .before .before .before .before .before .before .before .before .before .before .before .before .before .before .before .before .before .before .pre .1 .0 .pool .ready .tables .of-words, omega arith)
+pp-let-body-let-body-requires : (t : ℕ) → pp-let-body-lts.Need-let-body-requires (pp-let-body-cs t) (pp-let-body-at t) pp-let-body.Post
+pp-let-body-let-body-requires t c κs =
+    let start = c .before .before .before .before .before .before .before .before .before .before .before .before .before .before .before .before .before .before in
+    start .pre .1 .0 .pool .ready .tables .of-words
 
--- src/exprs.rt:399:5
 pp-let-body-pp-expr-requires : (t : ℕ) → pp-let-body-lts.Need-pp-expr-requires (pp-let-body-cs t) (pp-let-body-at t) pp-let-body.Post
-pp-let-body-pp-expr-requires t c κs = let fits = names-fit _ _ _ (ap (λ (st : State). eqb (sinkOf st .stop) 0) (sym (c .before .before .before .before .before .before .before .before .before .before .before .put-names .ensures)) ∙ eq-eqb _ 0 (c .before .before .before .before .before .if1 .left)) in
-    let below = let-inside (c .before .before .before .before .before .before .before .before .before .before .before .before .before .before .before .before .before .before .before .before .pre .1 .0) _ (c .before .before .before .before .before .before .before .before .before .before .before .before .before .before .before .before .before .before .before .before .pre .1 .1) (c .expr-word2 .ensures .0) in
-    (omega (arith, c .before .before .before .before .before .before .before .before .before .before .before .before .before .before .before .before .before .before .before .before .pre .0, below), (asked-inside (c .before .before .before .before .before .before .before .before .before .before .before .before .before .before .before .before .before .before .before .before .pre .1 .0) _ _ _ (c .before .before .before .before .before .before .before .before .before .before .before .before .before .before .before .before .before .before .before .before .pre .1 .1) (c .expr-word2 .ensures .0) (c .before .before .before .before .expr-word .ensures .0) (omega (arith, fits)) (c .before .before .before .push .ensures), omega arith))
+pp-let-body-pp-expr-requires t c κs =
+    let at-let-body = c .before .before in
+    let at-let-name = at-let-body .before .before in
+    let at-if1 = at-let-name .before in
+    let at-put-names = at-if1 .before .before .before .before .before .before in
+    let start = at-put-names .before .before .before .before .before .before .before .before .before .before in
+    let fits = names-fit _ _ _ (ap (λ (st : State). eqb (sinkOf st .stop) 0) (sym (at-put-names .put-names .ensures)) ∙ eq-eqb _ 0 (at-if1 .if1 .left)) in
+    let below = let-inside (start .pre .1 .0) _ (start .pre .1 .1) (at-let-body .let-body .ensures .0) in (
+      omega (arith, start .pre .0, below),
+      (
+        asked-inside (start .pre .1 .0) _ _ _ (start .pre .1 .1) (at-let-body .let-body .ensures .0) (at-let-name .let-name .ensures .0) (omega
+            (arith, fits)) (c .before .before .before .push .ensures),
+        omega arith,
+      ),
+    )
 
--- src/exprs.rt:377:1
 pp-let-body-same-length-3 : (t : ℕ) → pp-let-body-lts.Need-same-length-3 (pp-let-body-cs t) (pp-let-body-at t) pp-let-body.Post
-pp-let-body-same-length-3 t c = c .before .before .before .before .pp-expr .kept .1 .1 .1 .1 .0 ∙ c .before .before .before .before .before .before .before .before .before .before .before .before .before .before .before .before .put-names .kept .0
+pp-let-body-same-length-3 t c =
+    let at-pp-expr = c .before .before .before .before in
+    let at-put-names = at-pp-expr .before .before .before .before .before .before .before .before .before .before .before .before in
+    at-pp-expr .pp-expr .kept .1 .1 .1 .1 .0 ∙ at-put-names .put-names .kept .0
 
--- src/exprs.rt:377:1
 pp-let-body-same-length-4 : (t : ℕ) → pp-let-body-lts.Need-same-length-4 (pp-let-body-cs t) (pp-let-body-at t) pp-let-body.Post
-pp-let-body-same-length-4 t c = c .before .before .before .before .pp-expr .kept .1 .1 .1 .1 .1 .0 ∙ c .before .before .before .before .before .before .before .before .before .before .before .before .before .before .before .before .put-names .kept .1 .0
+pp-let-body-same-length-4 t c =
+    let at-pp-expr = c .before .before .before .before in
+    let at-put-names = at-pp-expr .before .before .before .before .before .before .before .before .before .before .before .before in
+    at-pp-expr .pp-expr .kept .1 .1 .1 .1 .1 .0 ∙ at-put-names .put-names .kept .1 .0
 
--- src/exprs.rt:377:1
 pp-let-body-returns-2 : (t : ℕ) → pp-let-body-lts.Need-returns-2 (pp-let-body-cs t) (pp-let-body-at t) pp-let-body.Post
-pp-let-body-returns-2 t c = let fits = names-fit _ _ _ (ap (λ (st : State). eqb (sinkOf st .stop) 0) (sym (c .before .before .before .before .before .before .before .before .before .before .before .before .before .before .before .before .put-names .ensures)) ∙ eq-eqb _ 0 (c .before .before .before .before .before .before .before .before .before .before .if1 .left)) in
-    rw (c .before .before .before .before .pp-expr .ensures, c .before .before .before .before .before .before .before .before .before .before .before .before .before .before .before .before .put-names .ensures) (let-goes-on (c .before .before .before .before .before .before .before .before .before .before .before .before .before .before .before .before .before .before .before .before .before .before .before .before .before .pre .1 .0) _ _ _ _ _ _ refl (c .before .before .before .before .before .before .before .before .before .expr-word .ensures .0) (c .before .before .before .before .before .expr-word2 .ensures .0) (omega (arith, fits)) (c .before .before .before .before .before .before .before .before .push .ensures))
+pp-let-body-returns-2 t c =
+    let at-pp-expr = c .before .before .before .before in
+    let at-let-body = at-pp-expr .before .before .before in
+    let at-push = at-let-body .before in
+    let at-let-name = at-push .before in
+    let at-if1 = at-let-name .before in
+    let at-put-names = at-if1 .before .before .before .before .before .before in
+    let start = at-put-names .before .before .before .before .before .before .before .before .before .before in
+    let fits = names-fit _ _ _ (ap (λ (st : State). eqb (sinkOf st .stop) 0) (sym (at-put-names .put-names .ensures)) ∙ eq-eqb _ 0 (at-if1 .if1 .left)) in
+    rw (at-pp-expr .pp-expr .ensures, at-put-names .put-names .ensures)
+    (let-goes-on (start .pre .1 .0) _ _ _ _ _ _ refl (at-let-name .let-name .ensures .0) (at-let-body .let-body .ensures .0) (omega (arith, fits))
+    (at-push .push .ensures))
 
--- src/exprs.rt:332:9
 pp-let-head-start-let-requires : (t : ℕ) → pp-let-head-lts.Need-start-let-requires (pp-let-head-cs t) (pp-let-head-at t) pp-let-head.Post
 pp-let-head-start-let-requires t c κs = search needs
 
--- src/exprs.rt:341:9
-pp-let-head-expr-word-requires : (t : ℕ) → pp-let-head-lts.Need-expr-word-requires (pp-let-head-cs t) (pp-let-head-at t) pp-let-head.Post
-pp-let-head-expr-word-requires t c κs = (c .before .before .before .before .before .before .before .before .before .before .before .before .before .before .pre .1 .0 .pool .ready .tables .of-words, omega arith)
+pp-let-head-let-name-requires : (t : ℕ) → pp-let-head-lts.Need-let-name-requires (pp-let-head-cs t) (pp-let-head-at t) pp-let-head.Post
+pp-let-head-let-name-requires t c κs =
+    let start = c .before .before .before .before .before .before .before .before .before .before .before .before .before in
+    start .pre .1 .0 .pool .ready .tables .of-words
 
--- src/exprs.rt:333:9
 pp-let-head-pp-name-safe-requires : (t : ℕ) → pp-let-head-lts.Need-pp-name-safe-requires (pp-let-head-cs t) (pp-let-head-at t) pp-let-head.Post
-pp-let-head-pp-name-safe-requires t c κs = (c .before .before .before .before .before .before .before .before .before .before .before .before .before .before .before .pre .1 .0 .pool .ready, let-name (c .before .before .before .before .before .before .before .before .before .before .before .before .before .before .before .pre .1 .0) _ (c .before .before .before .before .before .before .before .before .before .before .before .before .before .before .before .pre .1 .1) (c .expr-word .ensures .0))
+pp-let-head-pp-name-safe-requires t c κs =
+    let start = c .before .before .before .before .before .before .before .before .before .before .before .before .before .before .before .before in
+    (start .pre .1 .0 .pool .ready, let-name (start .pre .1 .0) _ (start .pre .1 .1) (c .before .before .let-name .ensures .0))
 
--- src/exprs.rt:343:9
 pp-let-head-put-colon-requires : (t : ℕ) → pp-let-head-lts.Need-put-colon-requires (pp-let-head-cs t) (pp-let-head-at t) pp-let-head.Post
 pp-let-head-put-colon-requires t c κs = search needs
 
--- src/exprs.rt:354:9
-pp-let-head-expr-word-requires-2 : (t : ℕ) → pp-let-head-lts.Need-expr-word-requires-2 (pp-let-head-cs t) (pp-let-head-at t) pp-let-head.Post
-pp-let-head-expr-word-requires-2 t c κs = (c .before .before .before .before .before .before .before .before .before .before .before .before .before .before .before .before .before .before .before .before .before .before .before .before .before .before .before .before .before .pre .1 .0 .pool .ready .tables .of-words, omega arith)
+pp-let-head-let-type-requires : (t : ℕ) → pp-let-head-lts.Need-let-type-requires (pp-let-head-cs t) (pp-let-head-at t) pp-let-head.Post
+pp-let-head-let-type-requires t c κs =
+    let start = c .before .before .before .before .before .before .before .before .before .before .before .before .before .before .before .before
+    .before .before .before .before .before .before .before .before .before .before .before .before in
+    start .pre .1 .0 .pool .ready .tables .of-words
 
--- src/exprs.rt:344:9
 pp-let-head-pp-expr-requires : (t : ℕ) → pp-let-head-lts.Need-pp-expr-requires (pp-let-head-cs t) (pp-let-head-at t) pp-let-head.Post
-pp-let-head-pp-expr-requires t c κs = let below = let-type (c .before .before .before .before .before .before .before .before .before .before .before .before .before .before .before .before .before .before .before .before .before .before .before .before .before .before .before .before .before .before .pre .1 .0) _ (c .before .before .before .before .before .before .before .before .before .before .before .before .before .before .before .before .before .before .before .before .before .before .before .before .before .before .before .before .before .before .pre .1 .1) (c .expr-word2 .ensures .0) in
-    (omega (arith, c .before .before .before .before .before .before .before .before .before .before .before .before .before .before .before .before .before .before .before .before .before .before .before .before .before .before .before .before .before .before .pre .0, below), (asked-below (c .before .before .before .before .before .before .before .before .before .before .before .before .before .before .before .before .before .before .before .before .before .before .before .before .before .before .before .before .before .before .pre .1 .0) _ below, omega arith))
+pp-let-head-pp-expr-requires t c κs =
+    let start = c .before .before .before .before .before .before .before .before .before .before .before .before .before .before .before .before
+    .before .before .before .before .before .before .before .before .before .before .before .before .before .before .before in
+    let below = let-type (start .pre .1 .0) _ (start .pre .1 .1) (c .before .before .let-type .ensures .0) in
+    (omega (arith, start .pre .0, below), (asked-below (start .pre .1 .0) _ below, omega arith))
 
--- src/exprs.rt:358:9
 pp-let-head-put-assign-requires : (t : ℕ) → pp-let-head-lts.Need-put-assign-requires (pp-let-head-cs t) (pp-let-head-at t) pp-let-head.Post
 pp-let-head-put-assign-requires t c κs = search needs
 
--- src/exprs.rt:369:9
-pp-let-head-expr-word-requires-3 : (t : ℕ) → pp-let-head-lts.Need-expr-word-requires-3 (pp-let-head-cs t) (pp-let-head-at t) pp-let-head.Post
-pp-let-head-expr-word-requires-3 t c κs = (c .before .before .before .before .before .before .before .before .before .before .before .before .before .before .before .before .before .before .before .before .before .before .before .before .before .before .before .before .before .before .before .before .before .before .before .before .before .before .before .before .before .before .before .before .pre .1 .0 .pool .ready .tables .of-words, omega arith)
+pp-let-head-let-value-requires : (t : ℕ) → pp-let-head-lts.Need-let-value-requires (pp-let-head-cs t) (pp-let-head-at t) pp-let-head.Post
+pp-let-head-let-value-requires t c κs =
+    let start = c .before .before .before .before .before .before .before .before .before .before .before .before .before .before .before .before
+    .before .before .before .before .before .before .before .before .before .before .before .before .before .before .before .before .before .before
+    .before .before .before .before .before .before .before .before .before in
+    start .pre .1 .0 .pool .ready .tables .of-words
 
--- src/exprs.rt:359:9
 pp-let-head-pp-expr-requires-2 : (t : ℕ) → pp-let-head-lts.Need-pp-expr-requires-2 (pp-let-head-cs t) (pp-let-head-at t) pp-let-head.Post
-pp-let-head-pp-expr-requires-2 t c κs = let below = let-value (c .before .before .before .before .before .before .before .before .before .before .before .before .before .before .before .before .before .before .before .before .before .before .before .before .before .before .before .before .before .before .before .before .before .before .before .before .before .before .before .before .before .before .before .before .before .pre .1 .0) _ (c .before .before .before .before .before .before .before .before .before .before .before .before .before .before .before .before .before .before .before .before .before .before .before .before .before .before .before .before .before .before .before .before .before .before .before .before .before .before .before .before .before .before .before .before .before .pre .1 .1) (c .expr-word3 .ensures .0) in
-    (omega (arith, c .before .before .before .before .before .before .before .before .before .before .before .before .before .before .before .before .before .before .before .before .before .before .before .before .before .before .before .before .before .before .before .before .before .before .before .before .before .before .before .before .before .before .before .before .before .pre .0, below), (asked-below (c .before .before .before .before .before .before .before .before .before .before .before .before .before .before .before .before .before .before .before .before .before .before .before .before .before .before .before .before .before .before .before .before .before .before .before .before .before .before .before .before .before .before .before .before .before .pre .1 .0) _ below, omega arith))
+pp-let-head-pp-expr-requires-2 t c κs =
+    let start = c .before .before .before .before .before .before .before .before .before .before .before .before .before .before .before .before
+    .before .before .before .before .before .before .before .before .before .before .before .before .before .before .before .before .before .before
+    .before .before .before .before .before .before .before .before .before .before .before .before in
+    let below = let-value (start .pre .1 .0) _ (start .pre .1 .1) (c .before .before .let-value .ensures .0) in
+    (omega (arith, start .pre .0, below), (asked-below (start .pre .1 .0) _ below, omega arith))
 
--- src/exprs.rt:373:5
 pp-let-head-end-let-requires : (t : ℕ) → pp-let-head-lts.Need-end-let-requires (pp-let-head-cs t) (pp-let-head-at t) pp-let-head.Post
 pp-let-head-end-let-requires t c κs = search needs
 
--- src/exprs.rt:316:1
 pp-let-head-same-length : (t : ℕ) → pp-let-head-lts.Need-same-length (pp-let-head-cs t) (pp-let-head-at t) pp-let-head.Post
-pp-let-head-same-length t c = c .before .before .before .before .end-let .kept .0 ∙ c .before .before .before .before .before .before .before .before .before .before .before .pp-expr2 .kept .1 .1 .1 .1 .0 ∙ c .before .before .before .before .before .before .before .before .before .before .before .before .before .before .before .before .before .before .before .put-assign .kept .0 ∙ c .before .before .before .before .before .before .before .before .before .before .before .before .before .before .before .before .before .before .before .before .before .before .before .before .before .before .pp-expr .kept .1 .1 .1 .1 .0 ∙ c .before .before .before .before .before .before .before .before .before .before .before .before .before .before .before .before .before .before .before .before .before .before .before .before .before .before .before .before .before .before .before .before .before .before .put-colon .kept .0 ∙ c .before .before .before .before .before .before .before .before .before .before .before .before .before .before .before .before .before .before .before .before .before .before .before .before .before .before .before .before .before .before .before .before .before .before .before .before .before .before .before .before .before .pp-name-safe .kept .1 .1 .1 .1 .0 ∙ c .before .before .before .before .before .before .before .before .before .before .before .before .before .before .before .before .before .before .before .before .before .before .before .before .before .before .before .before .before .before .before .before .before .before .before .before .before .before .before .before .before .before .before .before .before .before .before .before .before .start-let .kept .0
+pp-let-head-same-length t c =
+    let at-end-let = c .before .before .before .before in
+    let at-pp-expr2 = at-end-let .before .before .before .before .before .before .before in
+    let at-put-assign = at-pp-expr2 .before .before .before .before .before .before .before .before in
+    let at-pp-expr = at-put-assign .before .before .before .before .before .before .before in
+    let at-put-colon = at-pp-expr .before .before .before .before .before .before .before .before in
+    let at-pp-name-safe = at-put-colon .before .before .before .before .before .before .before in
+    let at-start-let = at-pp-name-safe .before .before .before .before .before .before .before .before in
+    at-end-let .end-let .kept .0 ∙ at-pp-expr2 .pp-expr2 .kept .1 .1 .1 .1 .0 ∙ at-put-assign .put-assign .kept .0
+    ∙ at-pp-expr .pp-expr .kept .1 .1 .1 .1 .0 ∙ at-put-colon .put-colon .kept .0 ∙ at-pp-name-safe .pp-name-safe .kept .1 .1 .1 .1 .0
+    ∙ at-start-let .start-let .kept .0
 
--- src/exprs.rt:316:1
 pp-let-head-same-length-2 : (t : ℕ) → pp-let-head-lts.Need-same-length-2 (pp-let-head-cs t) (pp-let-head-at t) pp-let-head.Post
-pp-let-head-same-length-2 t c = c .before .before .before .before .end-let .kept .1 .0 ∙ c .before .before .before .before .before .before .before .before .before .before .before .pp-expr2 .kept .1 .1 .1 .1 .1 .0 ∙ c .before .before .before .before .before .before .before .before .before .before .before .before .before .before .before .before .before .before .before .put-assign .kept .1 .0 ∙ c .before .before .before .before .before .before .before .before .before .before .before .before .before .before .before .before .before .before .before .before .before .before .before .before .before .before .pp-expr .kept .1 .1 .1 .1 .1 .0 ∙ c .before .before .before .before .before .before .before .before .before .before .before .before .before .before .before .before .before .before .before .before .before .before .before .before .before .before .before .before .before .before .before .before .before .before .put-colon .kept .1 .0 ∙ c .before .before .before .before .before .before .before .before .before .before .before .before .before .before .before .before .before .before .before .before .before .before .before .before .before .before .before .before .before .before .before .before .before .before .before .before .before .before .before .before .before .pp-name-safe .kept .1 .1 .1 .1 .1 .0 ∙ c .before .before .before .before .before .before .before .before .before .before .before .before .before .before .before .before .before .before .before .before .before .before .before .before .before .before .before .before .before .before .before .before .before .before .before .before .before .before .before .before .before .before .before .before .before .before .before .before .before .start-let .kept .1 .0
+pp-let-head-same-length-2 t c =
+    let at-end-let = c .before .before .before .before in
+    let at-pp-expr2 = at-end-let .before .before .before .before .before .before .before in
+    let at-put-assign = at-pp-expr2 .before .before .before .before .before .before .before .before in
+    let at-pp-expr = at-put-assign .before .before .before .before .before .before .before in
+    let at-put-colon = at-pp-expr .before .before .before .before .before .before .before .before in
+    let at-pp-name-safe = at-put-colon .before .before .before .before .before .before .before in
+    let at-start-let = at-pp-name-safe .before .before .before .before .before .before .before .before in
+    at-end-let .end-let .kept .1 .0 ∙ at-pp-expr2 .pp-expr2 .kept .1 .1 .1 .1 .1 .0 ∙ at-put-assign .put-assign .kept .1 .0
+    ∙ at-pp-expr .pp-expr .kept .1 .1 .1 .1 .1 .0 ∙ at-put-colon .put-colon .kept .1 .0 ∙ at-pp-name-safe .pp-name-safe .kept .1 .1 .1 .1 .1 .0
+    ∙ at-start-let .start-let .kept .1 .0
 
--- src/exprs.rt:316:1
 pp-let-head-returns : (t : ℕ) → pp-let-head-lts.Need-returns (pp-let-head-cs t) (pp-let-head-at t) pp-let-head.Post
-pp-let-head-returns t c = rw (c .before .before .before .before .end-let .ensures, c .before .before .before .before .before .before .before .before .before .before .before .pp-expr2 .ensures, c .before .before .before .before .before .before .before .before .before .before .before .before .before .before .before .before .before .before .before .put-assign .ensures, c .before .before .before .before .before .before .before .before .before .before .before .before .before .before .before .before .before .before .before .before .before .before .before .before .before .before .pp-expr .ensures, c .before .before .before .before .before .before .before .before .before .before .before .before .before .before .before .before .before .before .before .before .before .before .before .before .before .before .before .before .before .before .before .before .before .before .put-colon .ensures, c .before .before .before .before .before .before .before .before .before .before .before .before .before .before .before .before .before .before .before .before .before .before .before .before .before .before .before .before .before .before .before .before .before .before .before .before .before .before .before .before .before .pp-name-safe .ensures, c .before .before .before .before .before .before .before .before .before .before .before .before .before .before .before .before .before .before .before .before .before .before .before .before .before .before .before .before .before .before .before .before .before .before .before .before .before .before .before .before .before .before .before .before .before .before .before .before .before .start-let .ensures) (let-head-row (c .before .before .before .before .before .before .before .before .before .before .before .before .before .before .before .before .before .before .before .before .before .before .before .before .before .before .before .before .before .before .before .before .before .before .before .before .before .before .before .before .before .before .before .before .before .before .before .before .before .before .before .before .before .before .before .before .before .pre .1 .0) _ _ _ _ _ (c .before .before .before .before .before .before .before .before .before .before .before .before .before .before .before .before .before .before .before .before .before .before .before .before .before .before .before .before .before .before .before .before .before .before .before .before .before .before .before .before .before .before .expr-word .ensures .0) (c .before .before .before .before .before .before .before .before .before .before .before .before .before .before .before .before .before .before .before .before .before .before .before .before .before .before .before .expr-word2 .ensures .0) (c .before .before .before .before .before .before .before .before .before .before .before .before .expr-word3 .ensures .0))
+pp-let-head-returns t c =
+    let at-end-let = c .before .before .before .before in
+    let at-pp-expr2 = at-end-let .before .before .before .before .before .before .before in
+    let at-let-value = at-pp-expr2 .before .before .before in
+    let at-put-assign = at-let-value .before .before .before .before .before in
+    let at-pp-expr = at-put-assign .before .before .before .before .before .before .before in
+    let at-let-type = at-pp-expr .before .before .before in
+    let at-put-colon = at-let-type .before .before .before .before .before in
+    let at-pp-name-safe = at-put-colon .before .before .before .before .before .before .before in
+    let at-let-name = at-pp-name-safe .before .before .before in
+    let at-start-let = at-let-name .before .before .before .before .before in
+    let start = at-start-let .before .before .before .before .before .before .before .before .before in
+    rw (
+      at-end-let .end-let .ensures,
+      at-pp-expr2 .pp-expr2 .ensures,
+      at-put-assign .put-assign .ensures,
+      at-pp-expr .pp-expr .ensures,
+      at-put-colon .put-colon .ensures,
+      at-pp-name-safe .pp-name-safe .ensures,
+      at-start-let .start-let .ensures,
+    )
+    (let-head-row (start .pre .1 .0) _ _ _ _ _ (at-let-name .let-name .ensures .0) (at-let-type .let-type .ensures .0)
+    (at-let-value .let-value .ensures .0))
 
--- src/exprs.rt:281:9
-pp-proj-expr-word-requires : (t : ℕ) → pp-proj-lts.Need-expr-word-requires (pp-proj-cs t) (pp-proj-at t) pp-proj.Post
-pp-proj-expr-word-requires t c κs = (c .before .before .before .before .before .before .before .pre .1 .0 .pool .ready .tables .of-words, omega arith)
+pp-proj-proj-structure-requires : (t : ℕ) → pp-proj-lts.Need-proj-structure-requires (pp-proj-cs t) (pp-proj-at t) pp-proj.Post
+pp-proj-proj-structure-requires t c κs =
+    let start = c .before .before .before .before .before .before in
+    start .pre .1 .0 .pool .ready .tables .of-words
 
--- src/exprs.rt:271:9
 pp-proj-pp-expr-requires : (t : ℕ) → pp-proj-lts.Need-pp-expr-requires (pp-proj-cs t) (pp-proj-at t) pp-proj.Post
-pp-proj-pp-expr-requires t c κs = let below = proj-rows (c .before .before .before .before .before .before .before .before .pre .1 .0) _ (c .before .before .before .before .before .before .before .before .pre .1 .1) (c .expr-word .ensures .0) in
-    (omega (arith, c .before .before .before .before .before .before .before .before .pre .0, below), (asked-below (c .before .before .before .before .before .before .before .before .pre .1 .0) _ below, omega arith))
+pp-proj-pp-expr-requires t c κs =
+    let start = c .before .before .before .before .before .before .before .before .before in
+    let below = proj-rows (start .pre .1 .0) _ (start .pre .1 .1) (c .before .before .proj-structure .ensures .0) in
+    (omega (arith, start .pre .0, below), (asked-below (start .pre .1 .0) _ below, omega arith))
 
--- src/exprs.rt:285:29
-pp-proj-expr-word-requires-2 : (t : ℕ) → pp-proj-lts.Need-expr-word-requires-2 (pp-proj-cs t) (pp-proj-at t) pp-proj.Post
-pp-proj-expr-word-requires-2 t c κs = (c .before .before .before .before .before .before .before .before .before .before .before .before .before .before .before .pre .1 .0 .pool .ready .tables .of-words, omega arith)
+pp-proj-proj-index-requires : (t : ℕ) → pp-proj-lts.Need-proj-index-requires (pp-proj-cs t) (pp-proj-at t) pp-proj.Post
+pp-proj-proj-index-requires t c κs =
+    let start = c .before .before .before .before .before .before .before .before .before .before .before .before .before .before .before .before in
+    start .pre .1 .0 .pool .ready .tables .of-words
 
--- src/exprs.rt:285:5
 pp-proj-end-proj-requires : (t : ℕ) → pp-proj-lts.Need-end-proj-requires (pp-proj-cs t) (pp-proj-at t) pp-proj.Post
-pp-proj-end-proj-requires t c κs = proj-field (c .before .before .before .before .before .before .before .before .before .before .before .before .before .before .before .before .pre .1 .0) _ (c .before .before .before .before .before .before .before .before .before .before .before .before .before .before .before .before .pre .1 .1) (c .expr-word2 .ensures .0)
+pp-proj-end-proj-requires t c κs =
+    let start = c .before .before .before .before .before .before .before .before .before .before .before .before .before .before .before .before .before in
+    proj-field (start .pre .1 .0) _ (start .pre .1 .1) (c .proj-index .ensures .0)
 
--- src/exprs.rt:255:1
 pp-proj-same-length : (t : ℕ) → pp-proj-lts.Need-same-length (pp-proj-cs t) (pp-proj-at t) pp-proj.Post
-pp-proj-same-length t c = c .before .before .before .before .end-proj .kept .0 ∙ c .before .before .before .before .before .before .before .before .before .before .before .before .pp-expr .kept .1 .1 .1 .1 .0
+pp-proj-same-length t c =
+    let at-end-proj = c .before .before .before .before in
+    let at-pp-expr = at-end-proj .before .before .before .before .before .before .before .before in
+    at-end-proj .end-proj .kept .0 ∙ at-pp-expr .pp-expr .kept .1 .1 .1 .1 .0
 
--- src/exprs.rt:255:1
 pp-proj-same-length-2 : (t : ℕ) → pp-proj-lts.Need-same-length-2 (pp-proj-cs t) (pp-proj-at t) pp-proj.Post
-pp-proj-same-length-2 t c = c .before .before .before .before .end-proj .kept .1 .0 ∙ c .before .before .before .before .before .before .before .before .before .before .before .before .pp-expr .kept .1 .1 .1 .1 .1 .0
+pp-proj-same-length-2 t c =
+    let at-end-proj = c .before .before .before .before in
+    let at-pp-expr = at-end-proj .before .before .before .before .before .before .before .before in
+    at-end-proj .end-proj .kept .1 .0 ∙ at-pp-expr .pp-expr .kept .1 .1 .1 .1 .1 .0
 
--- src/exprs.rt:255:1
 pp-proj-returns : (t : ℕ) → pp-proj-lts.Need-returns (pp-proj-cs t) (pp-proj-at t) pp-proj.Post
-pp-proj-returns t c = rw (c .before .before .before .before .end-proj .ensures, c .before .before .before .before .before .before .before .before .before .before .before .before .pp-expr .ensures) (proj-row (c .before .before .before .before .before .before .before .before .before .before .before .before .before .before .before .before .before .before .before .before .before .pre .1 .0) _ _ _ _ (c .before .before .before .before .before .before .before .before .before .before .before .before .before .before .before .before .before .before .before .before .before .pre .1 .1) (c .before .before .before .before .before .before .before .before .before .before .before .before .before .expr-word .ensures .0) (c .before .before .before .before .before .expr-word2 .ensures .0))
+pp-proj-returns t c =
+    let at-end-proj = c .before .before .before .before in
+    let at-proj-index = at-end-proj .before in
+    let at-pp-expr = at-proj-index .before .before .before .before .before .before .before in
+    let at-proj-structure = at-pp-expr .before .before .before in
+    let start = at-proj-structure .before .before .before .before .before .before .before in
+    rw (at-end-proj .end-proj .ensures, at-pp-expr .pp-expr .ensures)
+    (proj-row (start .pre .1 .0) _ _ _ _ (start .pre .1 .1) (at-proj-structure .proj-structure .ensures .0) (at-proj-index .proj-index .ensures .0))
 
--- src/exprs.rt:607:13
-pp-run-expr-word-requires : (t : ℕ) → pp-run-lts.Need-expr-word-requires (pp-run-cs t) (pp-run-at t) pp-run.Post
-pp-run-expr-word-requires t c κs = (c .before .before .before .before .before .before .before .before .pre .1 .0 .asked .pool .ready .tables .of-words, omega arith)
+pp-run-binder-type-requires : (t : ℕ) → pp-run-lts.Need-binder-type-requires (pp-run-cs t) (pp-run-at t) pp-run.Post
+pp-run-binder-type-requires t c κs =
+    let start = c .before .before .before .before .before .before .before in
+    start .pre .1 .0 .asked .pool .ready .tables .of-words
 
--- src/exprs.rt:597:13
 pp-run-pp-expr-requires : (t : ℕ) → pp-run-lts.Need-pp-expr-requires (pp-run-cs t) (pp-run-at t) pp-run.Post
-pp-run-pp-expr-requires t c κs = let below = binder-type (c .before .before .before .before .before .before .before .before .before .pre .1 .0 .asked) _ (c .before .before .before .before .before .before .before .before .before .pre .1 .1) (c .expr-word .ensures .0) in
-    (omega (arith, c .before .before .before .before .before .before .before .before .before .pre .0, below), (asked-below (c .before .before .before .before .before .before .before .before .before .pre .1 .0 .asked) _ below, omega arith))
+pp-run-pp-expr-requires t c κs =
+    let start = c .before .before .before .before .before .before .before .before .before .before in
+    let below = binder-type (start .pre .1 .0 .asked) _ (start .pre .1 .1) (c .before .before .binder-type .ensures .0) in
+    (omega (arith, start .pre .0, below), (asked-below (start .pre .1 .0 .asked) _ below, omega arith))
 
--- src/exprs.rt:611:9
 pp-run-put-arrow-requires : (t : ℕ) → pp-run-lts.Need-put-arrow-requires (pp-run-cs t) (pp-run-at t) pp-run.Post
 pp-run-put-arrow-requires t c κs = search needs
 
--- src/exprs.rt:611:9
 pp-run-same-length : (t : ℕ) → pp-run-lts.Need-same-length (pp-run-cs t) (pp-run-at t) pp-run.Post
-pp-run-same-length t c = c .before .before .before .before .put-arrow .kept .0 ∙ c .before .before .before .before .before .before .before .before .before .before .before .pp-expr .kept .1 .1 .1 .1 .0
+pp-run-same-length t c =
+    let at-put-arrow = c .before .before .before .before in
+    let at-pp-expr = at-put-arrow .before .before .before .before .before .before .before in
+    at-put-arrow .put-arrow .kept .0 ∙ at-pp-expr .pp-expr .kept .1 .1 .1 .1 .0
 
--- src/exprs.rt:611:9
 pp-run-same-length-2 : (t : ℕ) → pp-run-lts.Need-same-length-2 (pp-run-cs t) (pp-run-at t) pp-run.Post
-pp-run-same-length-2 t c = c .before .before .before .before .put-arrow .kept .1 .0 ∙ c .before .before .before .before .before .before .before .before .before .before .before .pp-expr .kept .1 .1 .1 .1 .1 .0
+pp-run-same-length-2 t c =
+    let at-put-arrow = c .before .before .before .before in
+    let at-pp-expr = at-put-arrow .before .before .before .before .before .before .before in
+    at-put-arrow .put-arrow .kept .1 .0 ∙ at-pp-expr .pp-expr .kept .1 .1 .1 .1 .1 .0
 
--- src/exprs.rt:611:9
 pp-run-returns : (t : ℕ) → pp-run-lts.Need-returns (pp-run-cs t) (pp-run-at t) pp-run.Post
-pp-run-returns t c = rw (c .before .before .before .before .put-arrow .ensures, c .before .before .before .before .before .before .before .before .before .before .before .pp-expr .ensures) (arrow-row (c .before .before .before .before .before .before .before .before .before .before .before .before .before .before .before .before .before .before .before .before .before .pre .1 .0 .asked) _ _ _ _ _ _ (c .before .before .before .before .before .before .before .before .before .before .before .before .before .before .before .before .before .before .before .before .before .pre .1 .1) (c .before .before .before .before .before .before .before .before .before .before .before .before .before .before .before .if1 .taken) (c .before .before .before .before .before .before .before .before .before .before .before .before .expr-word .ensures .0))
+pp-run-returns t c =
+    let at-put-arrow = c .before .before .before .before in
+    let at-pp-expr = at-put-arrow .before .before .before .before .before .before .before in
+    let at-binder-type = at-pp-expr .before .before .before in
+    let at-if1 = at-binder-type .before in
+    let start = at-if1 .before .before .before .before .before .before .before in
+    rw (at-put-arrow .put-arrow .ensures, at-pp-expr .pp-expr .ensures)
+    (arrow-row (start .pre .1 .0 .asked) _ _ _ _ _ _ (start .pre .1 .1) (at-if1 .if1 .taken) (at-binder-type .binder-type .ensures .0))
 
--- src/exprs.rt:613:15
-pp-run-expr-word-requires-2 : (t : ℕ) → pp-run-lts.Need-expr-word-requires-2 (pp-run-cs t) (pp-run-at t) pp-run.Post
-pp-run-expr-word-requires-2 t c κs = (c .before .before .before .before .before .before .pre .1 .0 .asked .pool .ready .tables .of-words, omega arith)
+pp-run-expr-kind-requires : (t : ℕ) → pp-run-lts.Need-expr-kind-requires (pp-run-cs t) (pp-run-at t) pp-run.Post
+pp-run-expr-kind-requires t c κs =
+    let start = c .before .before .before .before .before .before .before in
+    start .pre .1 .0 .asked .pool .ready .tables .of-words
 
--- src/exprs.rt:614:9
 pp-run-start-run-requires : (t : ℕ) → pp-run-lts.Need-start-run-requires (pp-run-cs t) (pp-run-at t) pp-run.Post
 pp-run-start-run-requires t c κs = search needs
 
--- src/exprs.rt:615:9
 pp-run-telescope-requires : (t : ℕ) → pp-run-lts.Need-telescope-requires (pp-run-cs t) (pp-run-at t) pp-run.Post
-pp-run-telescope-requires t c κs = let few = part-some _ _ _ (c .before .before .before .before .before .before .before .before .before .before .before .before .before .before .before .before .pre .1 .3) (binder-some (c .before .before .before .before .before .before .before .before .before .before .before .before .before .before .before .before .pre .1 .0 .asked) (c .before .before .before .before .before .before .before .before .before .before .before .before .before .before .before .before .pre .1 .1)) in
-    let some = part-positive (c .before .before .before .before .before .before .before .before .before .before .before .before .before .before .before .before .pre .1 .0 .asked) (c .before .before .before .before .before .before .before .before .before .before .before .before .before .before .before .before .pre .1 .1) _ _ (c .before .before .before .before .before .before .before .before .before .before .before .before .before .before .before .before .pre .1 .2) (c .before .before .before .before .before .before .before .before .before .before .before .before .before .before .before .before .pre .1 .3) in
-    (omega (arith, c .before .before .before .before .before .before .before .before .before .before .before .before .before .before .before .before .pre .0), (c .before .before .before .before .before .before .before .before .before .before .before .before .before .before .before .before .pre .1 .0, few, λ e. some))
+pp-run-telescope-requires t c κs =
+    let start = c .before .before .before .before .before .before .before .before .before .before .before .before .before .before .before .before .before in
+    let few = part-some _ _ _ (start .pre .1 .3) (binder-some (start .pre .1 .0 .asked) (start .pre .1 .1)) in
+    let some = part-positive (start .pre .1 .0 .asked) (start .pre .1 .1) _ _ (start .pre .1 .2) (start .pre .1 .3) in
+    (omega (arith, start .pre .0), (start .pre .1 .0, few, λ e. some))
 
--- src/exprs.rt:631:5
 pp-run-end-run-requires : (t : ℕ) → pp-run-lts.Need-end-run-requires (pp-run-cs t) (pp-run-at t) pp-run.Post
 pp-run-end-run-requires t c κs = search needs
 
--- src/exprs.rt:577:1
 pp-run-same-length-3 : (t : ℕ) → pp-run-lts.Need-same-length-3 (pp-run-cs t) (pp-run-at t) pp-run.Post
-pp-run-same-length-3 t c = c .before .before .before .before .end-run .kept .0 ∙ c .before .before .before .before .before .before .before .before .before .before .before .telescope .kept .1 .1 .1 .1 .0 ∙ c .before .before .before .before .before .before .before .before .before .before .before .before .before .before .before .before .before .before .start-run .kept .0
+pp-run-same-length-3 t c =
+    let at-end-run = c .before .before .before .before in
+    let at-telescope = at-end-run .before .before .before .before .before .before .before in
+    let at-start-run = at-telescope .before .before .before .before .before .before .before in
+    at-end-run .end-run .kept .0 ∙ at-telescope .telescope .kept .1 .1 .1 .1 .0 ∙ at-start-run .start-run .kept .0
 
--- src/exprs.rt:577:1
 pp-run-same-length-4 : (t : ℕ) → pp-run-lts.Need-same-length-4 (pp-run-cs t) (pp-run-at t) pp-run.Post
-pp-run-same-length-4 t c = c .before .before .before .before .end-run .kept .1 .0 ∙ c .before .before .before .before .before .before .before .before .before .before .before .telescope .kept .1 .1 .1 .1 .1 .0 ∙ c .before .before .before .before .before .before .before .before .before .before .before .before .before .before .before .before .before .before .start-run .kept .1 .0
+pp-run-same-length-4 t c =
+    let at-end-run = c .before .before .before .before in
+    let at-telescope = at-end-run .before .before .before .before .before .before .before in
+    let at-start-run = at-telescope .before .before .before .before .before .before .before in
+    at-end-run .end-run .kept .1 .0 ∙ at-telescope .telescope .kept .1 .1 .1 .1 .1 .0 ∙ at-start-run .start-run .kept .1 .0
 
--- src/exprs.rt:577:1
 pp-run-returns-2 : (t : ℕ) → pp-run-lts.Need-returns-2 (pp-run-cs t) (pp-run-at t) pp-run.Post
-pp-run-returns-2 t c = rw (c .before .before .before .before .end-run .ensures, c .before .before .before .before .before .before .before .before .before .before .before .telescope .ensures, c .before .before .before .before .before .before .before .before .before .before .before .before .before .before .before .before .before .before .start-run .ensures) (run-row (c .before .before .before .before .before .before .before .before .before .before .before .before .before .before .before .before .before .before .before .before .before .before .before .before .before .before .before .before .pre .1 .0 .asked) _ _ _ _ _ _ (c .before .before .before .before .before .before .before .before .before .before .before .before .before .before .before .before .before .before .before .before .before .before .if1 .left) (pis-row (c .before .before .before .before .before .before .before .before .before .before .before .before .before .before .before .before .before .before .before .before .before .before .before .before .before .before .before .before .pre .1 .0 .asked) 0 _ _ (c .before .before .before .before .before .before .before .before .before .before .before .before .before .before .before .before .before .before .before .before .before .before .before .before .before .before .before .before .pre .1 .1) (c .before .before .before .before .before .before .before .before .before .before .before .before .before .before .before .before .before .before .before .before .before .expr-word2 .ensures .0) refl))
+pp-run-returns-2 t c =
+    let at-end-run = c .before .before .before .before in
+    let at-telescope = at-end-run .before .before .before .before .before .before .before in
+    let at-start-run = at-telescope .before .before .before .before .before .before .before in
+    let at-expr-kind = at-start-run .before .before .before in
+    let at-if1 = at-expr-kind .before in
+    let start = at-if1 .before .before .before .before .before .before .before in
+    rw (at-end-run .end-run .ensures, at-telescope .telescope .ensures, at-start-run .start-run .ensures)
+    (run-row (start .pre .1 .0 .asked) _ _ _ _ _ _ (at-if1 .if1 .left)
+    (pis-row (start .pre .1 .0 .asked) (optionsOf (start .args .p)) _ _ (start .pre .1 .1) (at-expr-kind .expr-kind .ensures .0) refl))
 
--- src/exprs.rt:183:9
 pp-spine-returns : (t : ℕ) → pp-spine-lts.Need-returns (pp-spine-cs t) (pp-spine-at t) pp-spine.Post
 pp-spine-returns t c = sym (emit-stopped _ (state _ _ _) (ne-eqb _ 0 (c .if1 .taken)))
 
--- src/exprs.rt:195:9
-pp-spine-expr-word-requires : (t : ℕ) → pp-spine-lts.Need-expr-word-requires (pp-spine-cs t) (pp-spine-at t) pp-spine.Post
-pp-spine-expr-word-requires t c κs = (c .before .before .before .before .before .before .before .before .before .pre .1 .0 .pool .ready .tables .of-words, omega arith)
+pp-spine-app-function-requires : (t : ℕ) → pp-spine-lts.Need-app-function-requires (pp-spine-cs t) (pp-spine-at t) pp-spine.Post
+pp-spine-app-function-requires t c κs =
+    let start = c .before .before .before .before .before .before .before .before in
+    start .pre .1 .0 .pool .ready .tables .of-words
 
--- src/exprs.rt:185:9
 pp-spine-pp-head-requires : (t : ℕ) → pp-spine-lts.Need-pp-head-requires (pp-spine-cs t) (pp-spine-at t) pp-spine.Post
-pp-spine-pp-head-requires t c κs = let below = app-rows (c .before .before .before .before .before .before .before .before .before .before .pre .1 .0) _ (c .before .before .before .before .before .before .before .before .before .before .pre .1 .1) (c .expr-word .ensures .0) in
-    (omega (arith, c .before .before .before .before .before .before .before .before .before .before .pre .0, below), asked-below (c .before .before .before .before .before .before .before .before .before .before .pre .1 .0) _ below)
+pp-spine-pp-head-requires t c κs =
+    let start = c .before .before .before .before .before .before .before .before .before .before .before in
+    let below = app-rows (start .pre .1 .0) _ (start .pre .1 .1) (c .before .before .app-function .ensures .0) in
+    (omega (arith, start .pre .0, below), asked-below (start .pre .1 .0) _ below)
 
--- src/exprs.rt:198:9
 pp-spine-put-break-requires : (t : ℕ) → pp-spine-lts.Need-put-break-requires (pp-spine-cs t) (pp-spine-at t) pp-spine.Post
 pp-spine-put-break-requires t c κs = search needs
 
--- src/exprs.rt:209:9
-pp-spine-expr-word-requires-2 : (t : ℕ) → pp-spine-lts.Need-expr-word-requires-2 (pp-spine-cs t) (pp-spine-at t) pp-spine.Post
-pp-spine-expr-word-requires-2 t c κs = (c .before .before .before .before .before .before .before .before .before .before .before .before .before .before .before .before .before .before .before .before .before .before .before .before .pre .1 .0 .pool .ready .tables .of-words, omega arith)
+pp-spine-app-argument-requires : (t : ℕ) → pp-spine-lts.Need-app-argument-requires (pp-spine-cs t) (pp-spine-at t) pp-spine.Post
+pp-spine-app-argument-requires t c κs =
+    let start = c .before .before .before .before .before .before .before .before .before .before .before .before .before .before .before .before
+    .before .before .before .before .before .before .before in
+    start .pre .1 .0 .pool .ready .tables .of-words
 
--- src/exprs.rt:199:9
 pp-spine-pp-expr-requires : (t : ℕ) → pp-spine-lts.Need-pp-expr-requires (pp-spine-cs t) (pp-spine-at t) pp-spine.Post
-pp-spine-pp-expr-requires t c κs = let below = app-rows-2 (c .before .before .before .before .before .before .before .before .before .before .before .before .before .before .before .before .before .before .before .before .before .before .before .before .before .pre .1 .0) _ (c .before .before .before .before .before .before .before .before .before .before .before .before .before .before .before .before .before .before .before .before .before .before .before .before .before .pre .1 .1) (c .expr-word2 .ensures .0) in
-    (omega (arith, c .before .before .before .before .before .before .before .before .before .before .before .before .before .before .before .before .before .before .before .before .before .before .before .before .before .pre .0, below), (asked-below (c .before .before .before .before .before .before .before .before .before .before .before .before .before .before .before .before .before .before .before .before .before .before .before .before .before .pre .1 .0) _ below, omega arith))
+pp-spine-pp-expr-requires t c κs =
+    let start = c .before .before .before .before .before .before .before .before .before .before .before .before .before .before .before .before
+    .before .before .before .before .before .before .before .before .before .before in
+    let below = app-rows-2 (start .pre .1 .0) _ (start .pre .1 .1) (c .before .before .app-argument .ensures .0) in
+    (omega (arith, start .pre .0, below), (asked-below (start .pre .1 .0) _ below, omega arith))
 
--- src/exprs.rt:213:9
 pp-spine-put-group-requires : (t : ℕ) → pp-spine-lts.Need-put-group-requires (pp-spine-cs t) (pp-spine-at t) pp-spine.Post
 pp-spine-put-group-requires t c κs = search needs
 
--- src/exprs.rt:214:5
 pp-spine-end-tile-requires : (t : ℕ) → pp-spine-lts.Need-end-tile-requires (pp-spine-cs t) (pp-spine-at t) pp-spine.Post
 pp-spine-end-tile-requires t c κs = search needs
 
--- src/exprs.rt:166:1
 pp-spine-same-length : (t : ℕ) → pp-spine-lts.Need-same-length (pp-spine-cs t) (pp-spine-at t) pp-spine.Post
-pp-spine-same-length t c = c .before .before .before .before .end-tile .kept .0 ∙ c .before .before .before .before .before .before .before .before .before .before .before .put-group .kept .0 ∙ c .before .before .before .before .before .before .before .before .before .before .before .before .before .before .before .before .before .before .pp-expr .kept .1 .1 .1 .1 .0 ∙ c .before .before .before .before .before .before .before .before .before .before .before .before .before .before .before .before .before .before .before .before .before .before .before .before .before .before .put-break .kept .0 ∙ c .before .before .before .before .before .before .before .before .before .before .before .before .before .before .before .before .before .before .before .before .before .before .before .before .before .before .before .before .before .before .before .before .before .pp-head .kept .1 .1 .1 .1 .0
+pp-spine-same-length t c =
+    let at-end-tile = c .before .before .before .before in
+    let at-put-group = at-end-tile .before .before .before .before .before .before .before in
+    let at-pp-expr = at-put-group .before .before .before .before .before .before .before in
+    let at-put-break = at-pp-expr .before .before .before .before .before .before .before .before in
+    let at-pp-head = at-put-break .before .before .before .before .before .before .before in
+    at-end-tile .end-tile .kept .0 ∙ at-put-group .put-group .kept .0 ∙ at-pp-expr .pp-expr .kept .1 .1 .1 .1 .0 ∙ at-put-break .put-break .kept .0 ∙ at-pp-head .pp-head .kept .1 .1 .1 .1 .0
 
--- src/exprs.rt:166:1
 pp-spine-same-length-2 : (t : ℕ) → pp-spine-lts.Need-same-length-2 (pp-spine-cs t) (pp-spine-at t) pp-spine.Post
-pp-spine-same-length-2 t c = c .before .before .before .before .end-tile .kept .1 .0 ∙ c .before .before .before .before .before .before .before .before .before .before .before .put-group .kept .1 .0 ∙ c .before .before .before .before .before .before .before .before .before .before .before .before .before .before .before .before .before .before .pp-expr .kept .1 .1 .1 .1 .1 .0 ∙ c .before .before .before .before .before .before .before .before .before .before .before .before .before .before .before .before .before .before .before .before .before .before .before .before .before .before .put-break .kept .1 .0 ∙ c .before .before .before .before .before .before .before .before .before .before .before .before .before .before .before .before .before .before .before .before .before .before .before .before .before .before .before .before .before .before .before .before .before .pp-head .kept .1 .1 .1 .1 .1 .0
+pp-spine-same-length-2 t c =
+    let at-end-tile = c .before .before .before .before in
+    let at-put-group = at-end-tile .before .before .before .before .before .before .before in
+    let at-pp-expr = at-put-group .before .before .before .before .before .before .before in
+    let at-put-break = at-pp-expr .before .before .before .before .before .before .before .before in
+    let at-pp-head = at-put-break .before .before .before .before .before .before .before in
+    at-end-tile .end-tile .kept .1 .0 ∙ at-put-group .put-group .kept .1 .0 ∙ at-pp-expr .pp-expr .kept .1 .1 .1 .1 .1 .0
+    ∙ at-put-break .put-break .kept .1 .0 ∙ at-pp-head .pp-head .kept .1 .1 .1 .1 .1 .0
 
--- src/exprs.rt:166:1
 pp-spine-returns-2 : (t : ℕ) → pp-spine-lts.Need-returns-2 (pp-spine-cs t) (pp-spine-at t) pp-spine.Post
-pp-spine-returns-2 t c = rw (c .before .before .before .before .end-tile .ensures, c .before .before .before .before .before .before .before .before .before .before .before .put-group .ensures, c .before .before .before .before .before .before .before .before .before .before .before .before .before .before .before .before .before .before .pp-expr .ensures, c .before .before .before .before .before .before .before .before .before .before .before .before .before .before .before .before .before .before .before .before .before .before .before .before .before .before .put-break .ensures, c .before .before .before .before .before .before .before .before .before .before .before .before .before .before .before .before .before .before .before .before .before .before .before .before .before .before .before .before .before .before .before .before .before .pp-head .ensures) (spine-row (c .before .before .before .before .before .before .before .before .before .before .before .before .before .before .before .before .before .before .before .before .before .before .before .before .before .before .before .before .before .before .before .before .before .before .before .before .before .before .before .before .before .before .before .before .pre .1 .0) _ _ _ _ (c .before .before .before .before .before .before .before .before .before .before .before .before .before .before .before .before .before .before .before .before .before .before .before .before .before .before .before .before .before .before .before .before .before .before .before .before .before .before .before .before .before .before .before .before .pre .1 .1) (c .before .before .before .before .before .before .before .before .before .before .before .before .before .before .before .before .before .before .before .before .before .before .before .before .before .before .before .before .before .before .before .before .before .before .expr-word .ensures .0) (c .before .before .before .before .before .before .before .before .before .before .before .before .before .before .before .before .before .before .before .expr-word2 .ensures .0))
+pp-spine-returns-2 t c =
+    let at-end-tile = c .before .before .before .before in
+    let at-put-group = at-end-tile .before .before .before .before .before .before .before in
+    let at-pp-expr = at-put-group .before .before .before .before .before .before .before in
+    let at-app-argument = at-pp-expr .before .before .before in
+    let at-put-break = at-app-argument .before .before .before .before .before in
+    let at-pp-head = at-put-break .before .before .before .before .before .before .before in
+    let at-app-function = at-pp-head .before .before .before in
+    let start = at-app-function .before .before .before .before .before .before .before .before .before in
+    rw (
+      at-end-tile .end-tile .ensures,
+      at-put-group .put-group .ensures,
+      at-pp-expr .pp-expr .ensures,
+      at-put-break .put-break .ensures,
+      at-pp-head .pp-head .ensures,
+    )
+    (spine-row (start .pre .1 .0) _ _ _ _ (start .pre .1 .1) (at-app-function .app-function .ensures .0)
+    (at-app-argument .app-argument .ensures .0))
 
--- src/exprs.rt:480:18
-pp-tail-expr-word-requires : (t : ℕ) → pp-tail-lts.Need-expr-word-requires (pp-tail-cs t) (pp-tail-at t) pp-tail.Post
-pp-tail-expr-word-requires t c κs = (c .before .before .before .before .before .pre .1 .0 .asked .pool .ready .tables .of-words, omega arith)
+pp-tail-expr-kind-requires : (t : ℕ) → pp-tail-lts.Need-expr-kind-requires (pp-tail-cs t) (pp-tail-at t) pp-tail.Post
+pp-tail-expr-kind-requires t c κs =
+    let start = c .before .before .before .before .before in
+    start .pre .1 .0 .asked .pool .ready .tables .of-words
 
--- src/exprs.rt:480:8
 pp-tail-is-binder-requires : (t : ℕ) → pp-tail-lts.Need-is-binder-requires (pp-tail-cs t) (pp-tail-at t) pp-tail.Post
 pp-tail-is-binder-requires t c κs = search needs
 
--- src/exprs.rt:481:9
 pp-tail-pp-binders-requires : (t : ℕ) → pp-tail-lts.Need-pp-binders-requires (pp-tail-cs t) (pp-tail-at t) pp-tail.Post
-pp-tail-pp-binders-requires t c κs = (omega (arith, c .before .before .before .before .before .before .before .before .before .before .pre .0), (c .before .before .before .before .before .before .before .before .before .before .pre .1 .0, c .before .before .before .before .before .before .before .before .before .before .pre .1 .1, ap binderKind (sym (c .before .before .before .before .expr-word .ensures .0)) ∙ sym (c .before .before .before .is-binder .ensures) ∙ c .before .before .if1 .taken))
+pp-tail-pp-binders-requires t c κs =
+    let at-expr-kind = c .before .before .before .before in
+    let start = at-expr-kind .before .before .before .before .before .before in (
+      omega (arith, start .pre .0),
+      (
+        start .pre .1 .0,
+        start .pre .1 .1,
+        ap binderKind (sym
+            (at-expr-kind .expr-kind .ensures .0)) ∙ sym (c .before .before .before .is-binder .ensures) ∙ c .before .before .if1 .taken,
+      ),
+    )
 
--- src/exprs.rt:481:9
 pp-tail-same-length : (t : ℕ) → pp-tail-lts.Need-same-length (pp-tail-cs t) (pp-tail-at t) pp-tail.Post
-pp-tail-same-length t c = c .before .before .before .before .pp-binders .kept .1 .1 .1 .1 .0
+pp-tail-same-length t c =
+    let at-pp-binders = c .before .before .before .before in
+    at-pp-binders .pp-binders .kept .1 .1 .1 .1 .0
 
--- src/exprs.rt:481:9
 pp-tail-same-length-2 : (t : ℕ) → pp-tail-lts.Need-same-length-2 (pp-tail-cs t) (pp-tail-at t) pp-tail.Post
-pp-tail-same-length-2 t c = c .before .before .before .before .pp-binders .kept .1 .1 .1 .1 .1 .0
+pp-tail-same-length-2 t c =
+    let at-pp-binders = c .before .before .before .before in
+    at-pp-binders .pp-binders .kept .1 .1 .1 .1 .1 .0
 
--- src/exprs.rt:481:9
 pp-tail-returns : (t : ℕ) → pp-tail-lts.Need-returns (pp-tail-cs t) (pp-tail-at t) pp-tail.Post
-pp-tail-returns t c = c .before .before .before .before .pp-binders .ensures
+pp-tail-returns t c =
+    let at-pp-binders = c .before .before .before .before in
+    at-pp-binders .pp-binders .ensures
 
--- src/exprs.rt:497:5
 pp-tail-pp-expr-requires : (t : ℕ) → pp-tail-lts.Need-pp-expr-requires (pp-tail-cs t) (pp-tail-at t) pp-tail.Post
-pp-tail-pp-expr-requires t c κs = (omega (arith, c .before .before .before .before .before .before .before .before .before .before .pre .0), (c .before .before .before .before .before .before .before .before .before .before .pre .1 .0 .asked, c .before .before .before .before .before .before .before .before .before .before .pre .1 .1))
+pp-tail-pp-expr-requires t c κs =
+    let start = c .before .before .before .before .before .before .before .before .before .before in
+    (omega (arith, start .pre .0), (start .pre .1 .0 .asked, start .pre .1 .1))
 
--- src/exprs.rt:462:1
 pp-tail-same-length-3 : (t : ℕ) → pp-tail-lts.Need-same-length-3 (pp-tail-cs t) (pp-tail-at t) pp-tail.Post
-pp-tail-same-length-3 t c = c .before .before .before .before .pp-expr .kept .1 .1 .1 .1 .0
+pp-tail-same-length-3 t c =
+    let at-pp-expr = c .before .before .before .before in
+    at-pp-expr .pp-expr .kept .1 .1 .1 .1 .0
 
--- src/exprs.rt:462:1
 pp-tail-same-length-4 : (t : ℕ) → pp-tail-lts.Need-same-length-4 (pp-tail-cs t) (pp-tail-at t) pp-tail.Post
-pp-tail-same-length-4 t c = c .before .before .before .before .pp-expr .kept .1 .1 .1 .1 .1 .0
+pp-tail-same-length-4 t c =
+    let at-pp-expr = c .before .before .before .before in
+    at-pp-expr .pp-expr .kept .1 .1 .1 .1 .1 .0
 
--- src/exprs.rt:462:1
 pp-tail-returns-2 : (t : ℕ) → pp-tail-lts.Need-returns-2 (pp-tail-cs t) (pp-tail-at t) pp-tail.Post
-pp-tail-returns-2 t c = c .before .before .before .before .pp-expr .ensures ∙ tail-row (c .before .before .before .before .before .before .before .before .before .before .before .before .before .before .before .pre .1 .0 .asked) _ _ _ _ (ap binderKind (sym (c .before .before .before .before .before .before .before .before .before .expr-word .ensures .0)) ∙ sym (c .before .before .before .before .before .before .before .before .is-binder .ensures) ∙ c .before .before .before .before .before .before .before .if1 .left)
+pp-tail-returns-2 t c =
+    let at-pp-expr = c .before .before .before .before in
+    let at-if1 = at-pp-expr .before .before .before in
+    let at-is-binder = at-if1 .before in
+    let at-expr-kind = at-is-binder .before in
+    let start = at-expr-kind .before .before .before .before .before .before in
+    at-pp-expr .pp-expr .ensures
+    ∙ tail-row (start .pre .1 .0 .asked) _ _ _ _ (ap binderKind (sym (at-expr-kind .expr-kind .ensures .0)) ∙ sym (at-is-binder .is-binder .ensures)
+    ∙ at-if1 .if1 .left)
 
--- src/exprs.rt:655:9
 telescope-returns : (t : ℕ) → telescope-lts.Need-returns (telescope-cs t) (telescope-at t) telescope.Post
-telescope-returns t c = none-row _ _ _ _ _ _ _ _ _ (c .if1 .taken) (c .before .before .before .before .before .before .pre .1 .2)
+telescope-returns t c =
+    let start = c .before .before .before .before .before .before in
+    none-row _ _ _ _ _ _ _ _ _ (c .if1 .taken) (start .pre .1 .2)
 
--- src/exprs.rt:657:9
-telescope-expr-word-requires : (t : ℕ) → telescope-lts.Need-expr-word-requires (telescope-cs t) (telescope-at t) telescope.Post
-telescope-expr-word-requires t c κs = (c .before .before .before .before .before .before .pre .1 .0 .asked .pool .ready .tables .of-words, omega arith)
+telescope-binder-style-requires : (t : ℕ) → telescope-lts.Need-binder-style-requires (telescope-cs t) (telescope-at t) telescope.Post
+telescope-binder-style-requires t c κs =
+    let start = c .before .before .before .before .before .before .before in
+    start .pre .1 .0 .asked .pool .ready .tables .of-words
 
--- src/exprs.rt:658:9
 telescope-group-end-requires : (t : ℕ) → telescope-lts.Need-group-end-requires (telescope-cs t) (telescope-at t) telescope.Post
-telescope-group-end-requires t c κs = (c .before .before .before .before .before .before .before .pre .1 .0 .asked .pool, c .before .before .before .before .before .before .before .pre .1 .0 .asked .row, positive _ (c .before .if1 .left), c .before .before .before .before .before .before .before .pre .1 .1)
+telescope-group-end-requires t c κs =
+    let start = c .before .before .before .before .before .before .before .before in
+    (start .pre .1 .0 .asked .pool, start .pre .1 .0 .asked .row, positive _ (c .before .before .if1 .left), start .pre .1 .1)
 
--- src/exprs.rt:659:9
-telescope-expr-word-requires-2 : (t : ℕ) → telescope-lts.Need-expr-word-requires-2 (telescope-cs t) (telescope-at t) telescope.Post
-telescope-expr-word-requires-2 t c κs = (c .before .before .before .before .before .before .before .before .pre .1 .0 .asked .pool .ready .tables .of-words, omega arith)
+telescope-binder-type-requires : (t : ℕ) → telescope-lts.Need-binder-type-requires (telescope-cs t) (telescope-at t) telescope.Post
+telescope-binder-type-requires t c κs =
+    let start = c .before .before .before .before .before .before .before .before .before in
+    start .pre .1 .0 .asked .pool .ready .tables .of-words
 
--- src/exprs.rt:660:9
 telescope-open-group-requires : (t : ℕ) → telescope-lts.Need-open-group-requires (telescope-cs t) (telescope-at t) telescope.Post
-telescope-open-group-requires t c κs = let b = some-binder _ (c .before .before .before .before .before .before .before .before .before .before .before .pre .1 .0 .asked .pool .ready .sound) _ (c .before .before .before .before .before .before .before .before .before .before .before .pre .1 .0 .asked .row) _ (positive _ (c .before .before .before .before .before .if1 .left)) (c .before .before .before .before .before .before .before .before .before .before .before .pre .1 .1) in
-    binder-style (c .before .before .before .before .before .before .before .before .before .before .before .pre .1 .0 .asked) _ b (c .before .before .before .before .expr-word .ensures .0)
+telescope-open-group-requires t c κs =
+    let at-binder-style = c .before .before .before .before in
+    let at-if1 = at-binder-style .before .before in
+    let start = at-if1 .before .before .before .before .before .before in
+    let b = some-binder _ (start .pre .1 .0 .asked .pool .ready .sound) _ (start .pre .1 .0 .asked .row) _ (positive _ (at-if1 .if1 .left)) (start .pre .1 .1) in
+    binder-style (start .pre .1 .0 .asked) _ b (at-binder-style .binder-style .ensures .0)
 
--- src/exprs.rt:661:9
 telescope-pp-names-requires : (t : ℕ) → telescope-lts.Need-pp-names-requires (telescope-cs t) (telescope-at t) telescope.Post
-telescope-pp-names-requires t c κs = let few = group-few _ _ _ _ _ (c .before .before .before .before .before .before .before .before .before .before .group-end .ensures) (positive _ (c .before .before .before .before .before .before .before .before .before .before .before .before .if1 .left)) in
-    (c .before .before .before .before .before .before .before .before .before .before .before .before .before .before .before .before .before .before .pre .1 .0 .asked .pool, c .before .before .before .before .before .before .before .before .before .before .before .before .before .before .before .before .before .before .pre .1 .0 .asked .row, few .0, omega (arith, few .1, c .before .before .before .before .before .before .before .before .before .before .before .before .before .before .before .before .before .before .pre .1 .1))
+telescope-pp-names-requires t c κs =
+    let at-group-end = c .before .before .before .before .before .before .before .before .before .before in
+    let at-if1 = at-group-end .before .before .before in
+    let start = at-if1 .before .before .before .before .before .before in
+    let few = group-few _ _ _ _ _ (at-group-end .group-end .ensures) (positive _ (at-if1 .if1 .left)) in
+    (start .pre .1 .0 .asked .pool, start .pre .1 .0 .asked .row, few .0, omega (arith, few .1, start .pre .1 .1))
 
--- src/exprs.rt:662:9
 telescope-put-colon-requires : (t : ℕ) → telescope-lts.Need-put-colon-requires (telescope-cs t) (telescope-at t) telescope.Post
 telescope-put-colon-requires t c κs = search needs
 
--- src/exprs.rt:663:9
 telescope-pp-expr-requires : (t : ℕ) → telescope-lts.Need-pp-expr-requires (telescope-cs t) (telescope-at t) telescope.Post
-telescope-pp-expr-requires t c κs = let b = some-binder _ (c .before .before .before .before .before .before .before .before .before .before .before .before .before .before .before .before .before .before .before .before .before .before .before .before .before .before .before .before .before .before .before .before .pre .1 .0 .asked .pool .ready .sound) _ (c .before .before .before .before .before .before .before .before .before .before .before .before .before .before .before .before .before .before .before .before .before .before .before .before .before .before .before .before .before .before .before .before .pre .1 .0 .asked .row) _ (positive _ (c .before .before .before .before .before .before .before .before .before .before .before .before .before .before .before .before .before .before .before .before .before .before .before .before .before .before .if1 .left)) (c .before .before .before .before .before .before .before .before .before .before .before .before .before .before .before .before .before .before .before .before .before .before .before .before .before .before .before .before .before .before .before .before .pre .1 .1) in
-    let below = binder-type (c .before .before .before .before .before .before .before .before .before .before .before .before .before .before .before .before .before .before .before .before .before .before .before .before .before .before .before .before .before .before .before .before .pre .1 .0 .asked) _ b (c .before .before .before .before .before .before .before .before .before .before .before .before .before .before .before .before .before .before .before .before .before .before .before .expr-word2 .ensures .0) in
-    (omega (arith, c .before .before .before .before .before .before .before .before .before .before .before .before .before .before .before .before .before .before .before .before .before .before .before .before .before .before .before .before .before .before .before .before .pre .0, below), (asked-below (c .before .before .before .before .before .before .before .before .before .before .before .before .before .before .before .before .before .before .before .before .before .before .before .before .before .before .before .before .before .before .before .before .pre .1 .0 .asked) _ below, omega arith))
+telescope-pp-expr-requires t c κs =
+    let at-binder-type = c .before .before .before .before .before .before .before .before .before .before .before .before .before .before .before
+    .before .before .before .before .before .before .before .before in
+    let at-if1 = at-binder-type .before .before .before .before in
+    let start = at-if1 .before .before .before .before .before .before in
+    let b = some-binder _ (start .pre .1 .0 .asked .pool .ready .sound) _ (start .pre .1 .0 .asked .row) _ (positive _ (at-if1 .if1 .left)) (start .pre .1 .1) in
+    let below = binder-type (start .pre .1 .0 .asked) _ b (at-binder-type .binder-type .ensures .0) in
+    (omega (arith, start .pre .0, below), (asked-below (start .pre .1 .0 .asked) _ below, omega arith))
 
--- src/exprs.rt:677:9
 telescope-close-group-requires : (t : ℕ) → telescope-lts.Need-close-group-requires (telescope-cs t) (telescope-at t) telescope.Post
-telescope-close-group-requires t c κs = let b = some-binder _ (c .before .before .before .before .before .before .before .before .before .before .before .before .before .before .before .before .before .before .before .before .before .before .before .before .before .before .before .before .before .before .before .before .before .before .before .before .before .before .before .pre .1 .0 .asked .pool .ready .sound) _ (c .before .before .before .before .before .before .before .before .before .before .before .before .before .before .before .before .before .before .before .before .before .before .before .before .before .before .before .before .before .before .before .before .before .before .before .before .before .before .before .pre .1 .0 .asked .row) _ (positive _ (c .before .before .before .before .before .before .before .before .before .before .before .before .before .before .before .before .before .before .before .before .before .before .before .before .before .before .before .before .before .before .before .before .before .if1 .left)) (c .before .before .before .before .before .before .before .before .before .before .before .before .before .before .before .before .before .before .before .before .before .before .before .before .before .before .before .before .before .before .before .before .before .before .before .before .before .before .before .pre .1 .1) in
-    binder-style (c .before .before .before .before .before .before .before .before .before .before .before .before .before .before .before .before .before .before .before .before .before .before .before .before .before .before .before .before .before .before .before .before .before .before .before .before .before .before .before .pre .1 .0 .asked) _ b (c .before .before .before .before .before .before .before .before .before .before .before .before .before .before .before .before .before .before .before .before .before .before .before .before .before .before .before .before .before .before .before .before .expr-word .ensures .0)
+telescope-close-group-requires t c κs =
+    let at-binder-style = c .before .before .before .before .before .before .before .before .before .before .before .before .before .before .before
+    .before .before .before .before .before .before .before .before .before .before .before .before .before .before .before .before .before in
+    let at-if1 = at-binder-style .before .before in
+    let start = at-if1 .before .before .before .before .before .before in
+    let b = some-binder _ (start .pre .1 .0 .asked .pool .ready .sound) _ (start .pre .1 .0 .asked .row) _ (positive _ (at-if1 .if1 .left)) (start .pre .1 .1) in
+    binder-style (start .pre .1 .0 .asked) _ b (at-binder-style .binder-style .ensures .0)
 
--- src/exprs.rt:678:16
 telescope-add-next : (t : ℕ) → telescope-lts.Need-add-next (telescope-cs t) (telescope-at t) telescope.Post
-telescope-add-next t c = let b = some-binder _ (c .before .before .before .before .before .before .before .before .before .before .before .before .before .before .before .before .before .before .before .before .before .before .before .before .before .before .before .before .before .before .before .before .before .before .before .before .before .before .before .before .before .before .before .before .before .pre .1 .0 .asked .pool .ready .sound) _ (c .before .before .before .before .before .before .before .before .before .before .before .before .before .before .before .before .before .before .before .before .before .before .before .before .before .before .before .before .before .before .before .before .before .before .before .before .before .before .before .before .before .before .before .before .before .pre .1 .0 .asked .row) _ (positive _ (c .before .before .before .before .before .before .before .before .before .before .before .before .before .before .before .before .before .before .before .before .before .before .before .before .before .before .before .before .before .before .before .before .before .before .before .before .before .before .before .if1 .left)) (c .before .before .before .before .before .before .before .before .before .before .before .before .before .before .before .before .before .before .before .before .before .before .before .before .before .before .before .before .before .before .before .before .before .before .before .before .before .before .before .before .before .before .before .before .before .pre .1 .1) in
-    omega (arith, groups-room (c .before .before .before .before .before .before .before .before .before .before .before .before .before .before .before .before .before .before .before .before .before .before .before .before .before .before .before .before .before .before .before .before .before .before .before .before .before .before .before .before .before .before .before .before .before .pre .1 .0) b _ _ _ (c .before .before .before .before .before .before .before .before .before .before .before .before .before .before .before .before .before .before .before .before .before .before .before .before .before .before .before .before .before .before .before .before .before .before .before .before .before .group-end .ensures) (positive _ (c .before .before .before .before .before .before .before .before .before .before .before .before .before .before .before .before .before .before .before .before .before .before .before .before .before .before .before .before .before .before .before .before .before .before .before .before .before .before .before .if1 .left)) (c .before .before .before .before .before .before .before .before .before .before .before .before .before .before .before .before .before .before .before .before .before .before .before .before .before .before .before .before .before .before .before .before .before .before .before .before .before .before .before .before .before .before .before .before .before .pre .1 .1), c .before .before .before .before .before .before .before .before .before .before .before .before .before .before .before .before .before .before .before .before .before .before .before .before .before .before .before .before .before .before .before .before .before .before .before .before .before .before .before .before .before .before .before .before .before .pre .1 .0 .asked .held .linked .small)
+telescope-add-next t c =
+    let at-group-end = c .before .before .before .before .before .before .before .before .before .before .before .before .before .before .before
+    .before .before .before .before .before .before .before .before .before .before .before .before .before .before .before .before .before .before .before .before .before .before in
+    let at-if1 = at-group-end .before .before .before in
+    let start = at-if1 .before .before .before .before .before .before in
+    let b = some-binder _ (start .pre .1 .0 .asked .pool .ready .sound) _ (start .pre .1 .0 .asked .row) _ (positive _ (at-if1 .if1 .left)) (start .pre .1 .1) in
+    omega (arith, groups-room (start .pre .1 .0) b _ _ _ (at-group-end .group-end .ensures) (positive _ (at-if1 .if1 .left)) (start .pre .1 .1), start .pre .1 .0 .asked .held .linked .small)
 
--- src/exprs.rt:691:9
-telescope-sub-telescope : (t : ℕ) → telescope-lts.Need-sub-telescope (telescope-cs t) (telescope-at t) telescope.Post
-telescope-sub-telescope t c = let few = group-few _ _ _ _ _ (c .before .before .before .before .before .before .before .before .before .before .before .before .before .before .before .before .before .before .before .before .before .before .before .before .before .before .before .before .before .before .before .before .before .before .before .before .before .before .before .before .group-end .ensures) (positive _ (c .before .before .before .before .before .before .before .before .before .before .before .before .before .before .before .before .before .before .before .before .before .before .before .before .before .before .before .before .before .before .before .before .before .before .before .before .before .before .before .before .before .before .if1 .left)) in omega (arith, few .1)
+telescope-sub-left : (t : ℕ) → telescope-lts.Need-sub-left (telescope-cs t) (telescope-at t) telescope.Post
+telescope-sub-left t c =
+    let at-group-end = c .before .before .before .before .before .before .before .before .before .before .before .before .before .before .before
+    .before .before .before .before .before .before .before .before .before .before .before .before .before .before .before .before .before .before .before .before .before .before .before in
+    let at-if1 = at-group-end .before .before .before in
+    let few = group-few _ _ _ _ _ (at-group-end .group-end .ensures) (positive _ (at-if1 .if1 .left)) in omega (arith, few .1)
 
--- src/exprs.rt:679:5
 telescope-telescope-requires : (t : ℕ) → telescope-lts.Need-telescope-requires (telescope-cs t) (telescope-at t) telescope.Post
-telescope-telescope-requires t c κs = let b = some-binder _ (c .before .before .before .before .before .before .before .before .before .before .before .before .before .before .before .before .before .before .before .before .before .before .before .before .before .before .before .before .before .before .before .before .before .before .before .before .before .before .before .before .before .before .before .before .before .before .before .before .pre .1 .0 .asked .pool .ready .sound) _ (c .before .before .before .before .before .before .before .before .before .before .before .before .before .before .before .before .before .before .before .before .before .before .before .before .before .before .before .before .before .before .before .before .before .before .before .before .before .before .before .before .before .before .before .before .before .before .before .before .pre .1 .0 .asked .row) _ (positive _ (c .before .before .before .before .before .before .before .before .before .before .before .before .before .before .before .before .before .before .before .before .before .before .before .before .before .before .before .before .before .before .before .before .before .before .before .before .before .before .before .before .before .before .if1 .left)) (c .before .before .before .before .before .before .before .before .before .before .before .before .before .before .before .before .before .before .before .before .before .before .before .before .before .before .before .before .before .before .before .before .before .before .before .before .before .before .before .before .before .before .before .before .before .before .before .before .pre .1 .1) in
-    let few = group-few _ _ _ _ _ (c .before .before .before .before .before .before .before .before .before .before .before .before .before .before .before .before .before .before .before .before .before .before .before .before .before .before .before .before .before .before .before .before .before .before .before .before .before .before .before .before .group-end .ensures) (positive _ (c .before .before .before .before .before .before .before .before .before .before .before .before .before .before .before .before .before .before .before .before .before .before .before .before .before .before .before .before .before .before .before .before .before .before .before .before .before .before .before .before .before .before .if1 .left)) in (
-      omega (arith, c .before .before .before .before .before .before .before .before .before .before .before .before .before .before .before .before .before .before .before .before .before .before .before .before .before .before .before .before .before .before .before .before .before .before .before .before .before .before .before .before .before .before .before .before .before .before .before .before .pre .0, c .before .before .before .before .before .before .before .before .before .before .before .before .before .before .before .before .before .before .before .before .before .before .before .before .before .before .before .before .before .before .before .before .before .before .before .before .before .before .before .before .group-end .ensures .low, few .0),
+telescope-telescope-requires t c κs =
+    let at-group-end = c .before .before .before .before .before .before .before .before .before .before .before .before .before .before .before
+    .before .before .before .before .before .before .before .before .before .before .before .before .before .before .before .before .before .before
+    .before .before .before .before .before .before .before in
+    let at-if1 = at-group-end .before .before .before in
+    let start = at-if1 .before .before .before .before .before .before in
+    let b = some-binder _ (start .pre .1 .0 .asked .pool .ready .sound) _ (start .pre .1 .0 .asked .row) _ (positive _ (at-if1 .if1 .left)) (start .pre .1 .1) in
+    let few = group-few _ _ _ _ _ (at-group-end .group-end .ensures) (positive _ (at-if1 .if1 .left)) in (
+      omega (arith, start .pre .0, at-group-end .group-end .ensures .low, few .0),
       (
-        chain-later (c .before .before .before .before .before .before .before .before .before .before .before .before .before .before .before .before .before .before .before .before .before .before .before .before .before .before .before .before .before .before .before .before .before .before .before .before .before .before .before .before .before .before .before .before .before .before .before .before .pre .1 .0) b _ _ _ (few .0) (omega (arith, few .1, c .before .before .before .before .before .before .before .before .before .before .before .before .before .before .before .before .before .before .before .before .before .before .before .before .before .before .before .before .before .before .before .before .before .before .before .before .before .before .before .before .before .before .before .before .before .before .before .before .pre .1 .1)) (c .before .before .before .before .before .before .before .before .before .before .before .before .before .before .before .before .before .before .before .before .before .before .before .before .before .before .before .before .before .before .before .before .before .before .before .before .before .before .before .before .group-end .ensures .tree) (omega (arith, c .before .before .before .before .before .before .before .before .before .before .before .before .before .before .before .before .before .before .before .before .before .before .before .before .before .before .before .before .before .before .before .before .before .before .before .before .before .before .before .before .group-end .ensures .low, few .0)) refl,
-        left-few _ (c .before .before .before .before .before .before .before .before .before .before .before .before .before .before .before .before .before .before .before .before .before .before .before .before .before .before .before .before .before .before .before .before .before .before .before .before .before .before .before .before .before .before .before .before .before .before .before .before .args .k) _ _ _ _ (c .before .before .before .before .before .before .before .before .before .before .before .before .before .before .before .before .before .before .before .before .before .before .before .before .before .before .before .before .before .before .before .before .before .before .before .before .before .before .before .before .group-end .ensures) (positive _ (c .before .before .before .before .before .before .before .before .before .before .before .before .before .before .before .before .before .before .before .before .before .before .before .before .before .before .before .before .before .before .before .before .before .before .before .before .before .before .before .before .before .before .if1 .left)) (c .before .before .before .before .before .before .before .before .before .before .before .before .before .before .before .before .before .before .before .before .before .before .before .before .before .before .before .before .before .before .before .before .before .before .before .before .before .before .before .before .before .before .before .before .before .before .before .before .pre .1 .1),
+        chain-later (start .pre .1 .0) b _ _ _ (few .0) (omega (arith, few .1, start .pre .1 .1)) (at-group-end .group-end .ensures .tree)
+            (omega (arith, at-group-end .group-end .ensures .low, few .0)) refl,
+        left-few _ (start .args .k) _ _ _ _ (at-group-end .group-end .ensures) (positive _ (at-if1 .if1 .left)) (start .pre .1 .1),
         λ e. no-true e,
       ),
     )
 
--- src/exprs.rt:635:1
 telescope-same-length : (t : ℕ) → telescope-lts.Need-same-length (telescope-cs t) (telescope-at t) telescope.Post
-telescope-same-length t c = c .before .before .before .before .telescope .kept .1 .1 .1 .1 .0 ∙ c .before .before .before .before .before .before .before .before .before .before .before .before .before .close-group .kept .0 ∙ c .before .before .before .before .before .before .before .before .before .before .before .before .before .before .before .before .before .before .before .before .pp-expr .kept .1 .1 .1 .1 .0 ∙ c .before .before .before .before .before .before .before .before .before .before .before .before .before .before .before .before .before .before .before .before .before .before .before .before .before .before .before .put-colon .kept .0 ∙ c .before .before .before .before .before .before .before .before .before .before .before .before .before .before .before .before .before .before .before .before .before .before .before .before .before .before .before .before .before .before .before .before .before .before .pp-names .kept .1 .1 .1 .1 .0 ∙ c .before .before .before .before .before .before .before .before .before .before .before .before .before .before .before .before .before .before .before .before .before .before .before .before .before .before .before .before .before .before .before .before .before .before .before .before .before .before .before .before .before .open-group .kept .0
+telescope-same-length t c =
+    let at-telescope = c .before .before .before .before in
+    let at-close-group = at-telescope .before .before .before .before .before .before .before .before .before in
+    let at-pp-expr = at-close-group .before .before .before .before .before .before .before in
+    let at-put-colon = at-pp-expr .before .before .before .before .before .before .before in
+    let at-pp-names = at-put-colon .before .before .before .before .before .before .before in
+    let at-open-group = at-pp-names .before .before .before .before .before .before .before in
+    at-telescope .telescope .kept .1 .1 .1 .1 .0 ∙ at-close-group .close-group .kept .0 ∙ at-pp-expr .pp-expr .kept .1 .1 .1 .1 .0
+    ∙ at-put-colon .put-colon .kept .0 ∙ at-pp-names .pp-names .kept .1 .1 .1 .1 .0 ∙ at-open-group .open-group .kept .0
 
--- src/exprs.rt:635:1
 telescope-same-length-2 : (t : ℕ) → telescope-lts.Need-same-length-2 (telescope-cs t) (telescope-at t) telescope.Post
-telescope-same-length-2 t c = c .before .before .before .before .telescope .kept .1 .1 .1 .1 .1 .0 ∙ c .before .before .before .before .before .before .before .before .before .before .before .before .before .close-group .kept .1 .0 ∙ c .before .before .before .before .before .before .before .before .before .before .before .before .before .before .before .before .before .before .before .before .pp-expr .kept .1 .1 .1 .1 .1 .0 ∙ c .before .before .before .before .before .before .before .before .before .before .before .before .before .before .before .before .before .before .before .before .before .before .before .before .before .before .before .put-colon .kept .1 .0 ∙ c .before .before .before .before .before .before .before .before .before .before .before .before .before .before .before .before .before .before .before .before .before .before .before .before .before .before .before .before .before .before .before .before .before .before .pp-names .kept .1 .1 .1 .1 .1 .0 ∙ c .before .before .before .before .before .before .before .before .before .before .before .before .before .before .before .before .before .before .before .before .before .before .before .before .before .before .before .before .before .before .before .before .before .before .before .before .before .before .before .before .before .open-group .kept .1 .0
+telescope-same-length-2 t c =
+    let at-telescope = c .before .before .before .before in
+    let at-close-group = at-telescope .before .before .before .before .before .before .before .before .before in
+    let at-pp-expr = at-close-group .before .before .before .before .before .before .before in
+    let at-put-colon = at-pp-expr .before .before .before .before .before .before .before in
+    let at-pp-names = at-put-colon .before .before .before .before .before .before .before in
+    let at-open-group = at-pp-names .before .before .before .before .before .before .before in
+    at-telescope .telescope .kept .1 .1 .1 .1 .1 .0 ∙ at-close-group .close-group .kept .1 .0 ∙ at-pp-expr .pp-expr .kept .1 .1 .1 .1 .1 .0
+    ∙ at-put-colon .put-colon .kept .1 .0 ∙ at-pp-names .pp-names .kept .1 .1 .1 .1 .1 .0 ∙ at-open-group .open-group .kept .1 .0
 
--- src/exprs.rt:635:1
 telescope-returns-2 : (t : ℕ) → telescope-lts.Need-returns-2 (telescope-cs t) (telescope-at t) telescope.Post
-telescope-returns-2 t c = let b = some-binder _ (c .before .before .before .before .before .before .before .before .before .before .before .before .before .before .before .before .before .before .before .before .before .before .before .before .before .before .before .before .before .before .before .before .before .before .before .before .before .before .before .before .before .before .before .before .before .before .before .before .before .before .before .before .before .pre .1 .0 .asked .pool .ready .sound) _ (c .before .before .before .before .before .before .before .before .before .before .before .before .before .before .before .before .before .before .before .before .before .before .before .before .before .before .before .before .before .before .before .before .before .before .before .before .before .before .before .before .before .before .before .before .before .before .before .before .before .before .before .before .before .pre .1 .0 .asked .row) _ (positive _ (c .before .before .before .before .before .before .before .before .before .before .before .before .before .before .before .before .before .before .before .before .before .before .before .before .before .before .before .before .before .before .before .before .before .before .before .before .before .before .before .before .before .before .before .before .before .before .before .if1 .left)) (c .before .before .before .before .before .before .before .before .before .before .before .before .before .before .before .before .before .before .before .before .before .before .before .before .before .before .before .before .before .before .before .before .before .before .before .before .before .before .before .before .before .before .before .before .before .before .before .before .before .before .before .before .before .pre .1 .1) in
-    rw (c .before .before .before .before .telescope .ensures, c .before .before .before .before .before .before .before .before .before .before .before .before .before .close-group .ensures, c .before .before .before .before .before .before .before .before .before .before .before .before .before .before .before .before .before .before .before .before .pp-expr .ensures, c .before .before .before .before .before .before .before .before .before .before .before .before .before .before .before .before .before .before .before .before .before .before .before .before .before .before .before .put-colon .ensures, c .before .before .before .before .before .before .before .before .before .before .before .before .before .before .before .before .before .before .before .before .before .before .before .before .before .before .before .before .before .before .before .before .before .before .pp-names .ensures, c .before .before .before .before .before .before .before .before .before .before .before .before .before .before .before .before .before .before .before .before .before .before .before .before .before .before .before .before .before .before .before .before .before .before .before .before .before .before .before .before .before .open-group .ensures) (groups-row (c .before .before .before .before .before .before .before .before .before .before .before .before .before .before .before .before .before .before .before .before .before .before .before .before .before .before .before .before .before .before .before .before .before .before .before .before .before .before .before .before .before .before .before .before .before .before .before .before .before .before .before .before .before .pre .1 .0) b _ _ _ _ _ _ _ _ _ _ (positive _ (c .before .before .before .before .before .before .before .before .before .before .before .before .before .before .before .before .before .before .before .before .before .before .before .before .before .before .before .before .before .before .before .before .before .before .before .before .before .before .before .before .before .before .before .before .before .before .before .if1 .left)) (c .before .before .before .before .before .before .before .before .before .before .before .before .before .before .before .before .before .before .before .before .before .before .before .before .before .before .before .before .before .before .before .before .before .before .before .before .before .before .before .before .before .before .before .before .before .before .before .before .before .before .before .before .before .pre .1 .1) (c .before .before .before .before .before .before .before .before .before .before .before .before .before .before .before .before .before .before .before .before .before .before .before .before .before .before .before .before .before .before .before .before .before .before .before .before .before .before .before .before .before .before .before .before .before .group-end .ensures) refl refl (c .before .before .before .before .before .before .before .before .before .before .before .before .before .before .before .before .before .before .before .before .before .before .before .before .before .before .before .before .before .before .before .before .before .before .before .before .before .before .before .before .before .before .before .before .before .before .expr-word .ensures .0) (c .before .before .before .before .before .before .before .before .before .before .before .before .before .before .before .before .before .before .before .before .before .before .before .before .before .before .before .before .before .before .before .before .before .before .before .before .before .before .before .before .before .before .before .before .expr-word2 .ensures .0))
+telescope-returns-2 t c =
+    let at-telescope = c .before .before .before .before in
+    let at-close-group = at-telescope .before .before .before .before .before .before .before .before .before in
+    let at-pp-expr = at-close-group .before .before .before .before .before .before .before in
+    let at-put-colon = at-pp-expr .before .before .before .before .before .before .before in
+    let at-pp-names = at-put-colon .before .before .before .before .before .before .before in
+    let at-open-group = at-pp-names .before .before .before .before .before .before .before in
+    let at-binder-type = at-open-group .before .before .before in
+    let at-group-end = at-binder-type .before in
+    let at-binder-style = at-group-end .before in
+    let at-if1 = at-binder-style .before .before in
+    let start = at-if1 .before .before .before .before .before .before in
+    let b = some-binder _ (start .pre .1 .0 .asked .pool .ready .sound) _ (start .pre .1 .0 .asked .row) _ (positive _ (at-if1 .if1 .left)) (start .pre .1 .1) in
+    rw (
+      at-telescope .telescope .ensures,
+      at-close-group .close-group .ensures,
+      at-pp-expr .pp-expr .ensures,
+      at-put-colon .put-colon .ensures,
+      at-pp-names .pp-names .ensures,
+      at-open-group .open-group .ensures,
+    )
+    (groups-row (start .pre .1 .0) b _ _ _ _ _ _ _ _ _ _ (positive _ (at-if1 .if1 .left)) (start .pre .1 .1) (at-group-end .group-end .ensures) refl
+    refl (at-binder-style .binder-style .ensures .0) (at-binder-type .binder-type .ensures .0))
 
 pub +pp-app+pp-binders+pp-chain+pp-expr+pp-head+pp-let+pp-let-body+pp-let-head+pp-proj+pp-run+pp-spine+pp-tail+telescope-spec :
     {M : Type 1} → statement M
@@ -1012,8 +1667,8 @@ pub +pp-app+pp-binders+pp-chain+pp-expr+pp-head+pp-let+pp-let-body+pp-let-head+p
     (pp-expr-at t)
     pp-expr.Post
     (pp-expr-returns t)
-    (pp-expr-expr-word-requires t)
-    (pp-expr-expr-word-requires-2 t)
+    (pp-expr-expr-kind-requires t)
+    (pp-expr-var-index-requires t)
     (pp-expr-pp-bvar-requires t)
     (pp-expr-same-length t)
     (pp-expr-same-length-2 t)
@@ -1042,7 +1697,7 @@ pub +pp-app+pp-binders+pp-chain+pp-expr+pp-head+pp-let+pp-let-body+pp-let-head+p
     (λ t. pp-head-lts.spec (pp-head-cs t)
     (pp-head-at t)
     pp-head.Post
-    (pp-head-expr-word-requires t)
+    (pp-head-expr-kind-requires t)
     (pp-head-pp-spine-requires t)
     (pp-head-same-length t)
     (pp-head-same-length-2 t)
@@ -1072,9 +1727,9 @@ pub +pp-app+pp-binders+pp-chain+pp-expr+pp-head+pp-let+pp-let-body+pp-let-head+p
     (pp-let-body-same-length t)
     (pp-let-body-same-length-2 t)
     (pp-let-body-returns t)
-    (pp-let-body-expr-word-requires t)
+    (pp-let-body-let-name-requires t)
     (pp-let-body-push-requires t)
-    (pp-let-body-expr-word-requires-2 t)
+    (pp-let-body-let-body-requires t)
     (pp-let-body-pp-expr-requires t)
     (pp-let-body-same-length-3 t)
     (pp-let-body-same-length-4 t)
@@ -1083,13 +1738,13 @@ pub +pp-app+pp-binders+pp-chain+pp-expr+pp-head+pp-let+pp-let-body+pp-let-head+p
     (pp-let-head-at t)
     pp-let-head.Post
     (pp-let-head-start-let-requires t)
-    (pp-let-head-expr-word-requires t)
+    (pp-let-head-let-name-requires t)
     (pp-let-head-pp-name-safe-requires t)
     (pp-let-head-put-colon-requires t)
-    (pp-let-head-expr-word-requires-2 t)
+    (pp-let-head-let-type-requires t)
     (pp-let-head-pp-expr-requires t)
     (pp-let-head-put-assign-requires t)
-    (pp-let-head-expr-word-requires-3 t)
+    (pp-let-head-let-value-requires t)
     (pp-let-head-pp-expr-requires-2 t)
     (pp-let-head-end-let-requires t)
     (pp-let-head-same-length t)
@@ -1098,9 +1753,9 @@ pub +pp-app+pp-binders+pp-chain+pp-expr+pp-head+pp-let+pp-let-body+pp-let-head+p
     (λ t. pp-proj-lts.spec (pp-proj-cs t)
     (pp-proj-at t)
     pp-proj.Post
-    (pp-proj-expr-word-requires t)
+    (pp-proj-proj-structure-requires t)
     (pp-proj-pp-expr-requires t)
-    (pp-proj-expr-word-requires-2 t)
+    (pp-proj-proj-index-requires t)
     (pp-proj-end-proj-requires t)
     (pp-proj-same-length t)
     (pp-proj-same-length-2 t)
@@ -1108,13 +1763,13 @@ pub +pp-app+pp-binders+pp-chain+pp-expr+pp-head+pp-let+pp-let-body+pp-let-head+p
     (λ t. pp-run-lts.spec (pp-run-cs t)
     (pp-run-at t)
     pp-run.Post
-    (pp-run-expr-word-requires t)
+    (pp-run-binder-type-requires t)
     (pp-run-pp-expr-requires t)
     (pp-run-put-arrow-requires t)
     (pp-run-same-length t)
     (pp-run-same-length-2 t)
     (pp-run-returns t)
-    (pp-run-expr-word-requires-2 t)
+    (pp-run-expr-kind-requires t)
     (pp-run-start-run-requires t)
     (pp-run-telescope-requires t)
     (pp-run-end-run-requires t)
@@ -1125,10 +1780,10 @@ pub +pp-app+pp-binders+pp-chain+pp-expr+pp-head+pp-let+pp-let-body+pp-let-head+p
     (pp-spine-at t)
     pp-spine.Post
     (pp-spine-returns t)
-    (pp-spine-expr-word-requires t)
+    (pp-spine-app-function-requires t)
     (pp-spine-pp-head-requires t)
     (pp-spine-put-break-requires t)
-    (pp-spine-expr-word-requires-2 t)
+    (pp-spine-app-argument-requires t)
     (pp-spine-pp-expr-requires t)
     (pp-spine-put-group-requires t)
     (pp-spine-end-tile-requires t)
@@ -1138,7 +1793,7 @@ pub +pp-app+pp-binders+pp-chain+pp-expr+pp-head+pp-let+pp-let-body+pp-let-head+p
     (λ t. pp-tail-lts.spec (pp-tail-cs t)
     (pp-tail-at t)
     pp-tail.Post
-    (pp-tail-expr-word-requires t)
+    (pp-tail-expr-kind-requires t)
     (pp-tail-is-binder-requires t)
     (pp-tail-pp-binders-requires t)
     (pp-tail-same-length t)
@@ -1152,16 +1807,16 @@ pub +pp-app+pp-binders+pp-chain+pp-expr+pp-head+pp-let+pp-let-body+pp-let-head+p
     (telescope-at t)
     telescope.Post
     (telescope-returns t)
-    (telescope-expr-word-requires t)
+    (telescope-binder-style-requires t)
     (telescope-group-end-requires t)
-    (telescope-expr-word-requires-2 t)
+    (telescope-binder-type-requires t)
     (telescope-open-group-requires t)
     (telescope-pp-names-requires t)
     (telescope-put-colon-requires t)
     (telescope-pp-expr-requires t)
     (telescope-close-group-requires t)
     (telescope-add-next t)
-    (telescope-sub-telescope t)
+    (telescope-sub-left t)
     (telescope-telescope-requires t)
     (telescope-same-length t)
     (telescope-same-length-2 t)

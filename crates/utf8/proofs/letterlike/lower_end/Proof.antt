@@ -8,8 +8,6 @@ use mathlib.Core.List.{List, [], _∷_}
 use borrow.Author.Needs.{needs}
 use Rattle.utf8.proofs.letterlike.lower_end.Statement.{statement}
 use Rattle.utf8.proofs.letterlike.lower_end.Tie as tie
-use Rattle.utf8.proofs.letterlike.lower_end.Reads as reads
-use Rattle.utf8.proofs.letterlike.lower_end.Lts as lts
 
 ends : List ℕ
 ends = 0x3b1 ∷ 0x391 ∷ 0x1f00 ∷ 0x3ca ∷ 0x2100 ∷ 0x2080 ∷ 0x2090 ∷ 0x1d62 ∷ []
@@ -17,15 +15,12 @@ ends = 0x3b1 ∷ 0x391 ∷ 0x1f00 ∷ 0x3ca ∷ 0x2100 ∷ 0x2080 ∷ 0x2090 ∷
 right : ℕ → ℕ → Bool
 right k x = eqb x (lowerEnd k)
 
--- src/letterlike.rt:26:5
 mul-result : tie.Need-mul-result
 mul-result c = search needs
 
--- src/letterlike.rt:26:5
 array-read-result : tie.Need-array-read-result
 array-read-result c = search needs
 
--- src/letterlike.rt:22:1
 returns : tie.Need-returns
 unfolding ends right lowerEnd
 returns c = eqb→eq (getD ends (c .args .kind) 0) (lowerEnd (c .args .kind)) (at right ends tt (c .args .kind) (search needs))

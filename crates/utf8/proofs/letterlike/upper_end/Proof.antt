@@ -8,8 +8,6 @@ use mathlib.Core.List.{List, [], _∷_}
 use borrow.Author.Needs.{needs}
 use Rattle.utf8.proofs.letterlike.upper_end.Statement.{statement}
 use Rattle.utf8.proofs.letterlike.upper_end.Tie as tie
-use Rattle.utf8.proofs.letterlike.upper_end.Reads as reads
-use Rattle.utf8.proofs.letterlike.upper_end.Lts as lts
 
 ends : List ℕ
 ends = 0x3c9 ∷ 0x3a9 ∷ 0x1ffe ∷ 0x3fb ∷ 0x214f ∷ 0x2089 ∷ 0x209c ∷ 0x1d6a ∷ []
@@ -17,15 +15,12 @@ ends = 0x3c9 ∷ 0x3a9 ∷ 0x1ffe ∷ 0x3fb ∷ 0x214f ∷ 0x2089 ∷ 0x209c ∷
 right : ℕ → ℕ → Bool
 right k x = eqb x (upperEnd k)
 
--- src/letterlike.rt:33:5
 mul-result : tie.Need-mul-result
 mul-result c = search needs
 
--- src/letterlike.rt:33:5
 array-read-result : tie.Need-array-read-result
 array-read-result c = search needs
 
--- src/letterlike.rt:29:1
 returns : tie.Need-returns
 unfolding ends right upperEnd
 returns c = eqb→eq (getD ends (c .args .kind) 0) (upperEnd (c .args .kind)) (at right ends tt (c .args .kind) (search needs))

@@ -1,22 +1,16 @@
 use borrow.Author.Tests.{lt-ltb, le-ltb}
 use Rattle.utf8.proofs.scan.least_of.Statement.{statement}
 use Rattle.utf8.proofs.scan.least_of.Tie as tie
-use Rattle.utf8.proofs.scan.least_of.Reads as reads
-use Rattle.utf8.proofs.scan.least_of.Lts as lts
 
--- src/scan.rt:64:9
 returns : tie.Need-returns
 returns c = simp (lt-ltb _ _ (c .if1 .taken))
 
--- src/scan.rt:67:9
 returns-2 : tie.Need-returns-2
 returns-2 c = simp (le-ltb _ _ (c .before .if1 .left), lt-ltb _ _ (c .if2 .taken))
 
--- src/scan.rt:60:1
 returns-3 : tie.Need-returns-3
 returns-3 c = simp (le-ltb _ _ (c .before .before .if1 .left), le-ltb _ _ (c .before .if2 .left), lt-ltb _ _ (c .if3 .taken))
 
--- src/scan.rt:60:1
 returns-4 : tie.Need-returns-4
 returns-4 c = simp (le-ltb _ _ (c .before .before .if1 .left), le-ltb _ _ (c .before .if2 .left), le-ltb _ _ (c .if3 .left))
 

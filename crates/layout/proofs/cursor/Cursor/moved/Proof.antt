@@ -18,7 +18,9 @@ larger-requires : tie.Need-larger-requires
 larger-requires c κs = search needs
 
 returns : tie.Need-returns
-returns c = ap (λ (n : ℕ). moved-as (c .before .before .args .self) (c .before .before .args .position) n) (c .larger .ensures)
+returns c =
+    let start = c .before .before in
+    ap (λ (n : ℕ). moved-as (start .args .self) (start .args .position) n) (c .larger .ensures)
 
 pub moved-spec : {M : Type 1} → statement M
 moved-spec = tie.close (tie.spec add-larger sub-larger larger-requires returns)

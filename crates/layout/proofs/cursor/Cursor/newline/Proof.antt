@@ -31,12 +31,14 @@ same-length c = search needs
 
 returns : tie.Need-returns
 returns c =
-    let s = c .before .before .before .before .before .before .before .before .before .before .args in
+    let at-fill-at = c .before .before .before .before .before .before .before in
+    let start = at-fill-at .before .before .before in
+    let s = start .args in
     record {
       cursor = c .moved .ensures;
       bytes =
           c .before .before .before .fill-at2 .ensures
-          ∙ ap (λ (l : List ℕ). paint l (s .self .position + 1) (replicate (s .nest) 32)) (c .before .before .before .before .before .before .before .fill-at .ensures)
+          ∙ ap (λ (l : List ℕ). paint l (s .self .position + 1) (replicate (s .nest) 32)) (at-fill-at .fill-at .ensures)
           ∙ paint-append (s .listing .now) (s .self .position) (10 ∷ []) (replicate (s .nest) 32);
     }
 

@@ -1,0 +1,13 @@
+pub mod BinderLaws
+pub mod ViewLaws
+pub mod RunLaws
+pub mod RunningLaws
+pub mod NamingLaws
+pub mod GroupingLaws
+pub mod LeafLaws
+pub mod LoopLaws
+pub mod WordLaws
+pub mod RenameLaws
+pub mod ScopeLaws
+pub mod DropLaws
+pub mod GroupLaws

@@ -1,0 +1,84 @@
+use native.Mathlib.Omega.{arith}
+use mathlib.Core.Path.{_≡_, refl, sym, ap, _∙_}
+use Rattle.binders.proofs.BinderLaws.{binder-here, hidden-name, shown-name}
+use borrow.Author.Needs.{needs}
+use Rattle.binders.proofs.runs.pp_binder_name.Statement.{statement}
+use Rattle.binders.proofs.runs.pp_binder_name.Tie as tie
+
+binder-name-requires : tie.Need-binder-name-requires
+binder-name-requires c κs = search needs
+
+is-anonymous-requires : tie.Need-is-anonymous-requires
+is-anonymous-requires c κs =
+    let start = c .before .before .before .before .before .before in
+    let row = binder-here _ (start .pre .0 .ready .sound) _ (start .pre .1) (start .pre .2) in (start .pre .0 .ready, omega (arith, row .name, c .binder-name .ensures .0))
+
+is-used-requires : tie.Need-is-used-requires
+is-used-requires c κs = search needs
+
+both-requires : tie.Need-both-requires
+both-requires c κs = search needs
+
+put-word-requires : tie.Need-put-word-requires
+put-word-requires c κs = search needs
+
+same-length : tie.Need-same-length
+same-length c = search needs
+
+same-length-2 : tie.Need-same-length-2
+same-length-2 c = search needs
+
+returns : tie.Need-returns
+returns c =
+    let at-put-word = c .before .before .before .before in
+    let at-if1 = at-put-word .before .before .before in
+    let at-both = at-if1 .before in
+    let at-is-used = at-both .before in
+    let at-is-anonymous = at-is-used .before in
+    let at-binder-name = at-is-anonymous .before in
+    let start = at-binder-name .before .before .before .before .before .before in
+    at-put-word .put-word .ensures
+    ∙ hidden-name _ (start .pre .0 .ready .sound) _ (start .pre .1) (start .pre .2) _ _ _ _ _ (at-binder-name .binder-name .ensures .0)
+    (at-is-anonymous .is-anonymous .ensures) (at-is-used .is-used .ensures) (at-both .both .ensures) (at-if1 .if1 .taken)
+
+pp-name-safe-requires : tie.Need-pp-name-safe-requires
+pp-name-safe-requires c κs =
+    let at-binder-name = c .before .before .before .before .before .before in
+    let start = at-binder-name .before .before .before .before .before .before in
+    let row = binder-here _ (start .pre .0 .ready .sound) _ (start .pre .1) (start .pre .2) in (start .pre .0 .ready, omega (arith, row .name, at-binder-name .binder-name .ensures .0))
+
+same-length-3 : tie.Need-same-length-3
+same-length-3 c = search needs
+
+same-length-4 : tie.Need-same-length-4
+same-length-4 c = search needs
+
+returns-2 : tie.Need-returns-2
+returns-2 c =
+    let at-pp-name-safe = c .before .before .before .before in
+    let at-if1 = at-pp-name-safe .before .before .before in
+    let at-both = at-if1 .before in
+    let at-is-used = at-both .before in
+    let at-is-anonymous = at-is-used .before in
+    let at-binder-name = at-is-anonymous .before in
+    let start = at-binder-name .before .before .before .before .before .before in
+    at-pp-name-safe .pp-name-safe .ensures
+    ∙ shown-name _ (start .pre .0 .ready .sound) _ (start .pre .1) (start .pre .2) _ _ _ _ _ (at-binder-name .binder-name .ensures .0)
+    (at-is-anonymous .is-anonymous .ensures) (at-is-used .is-used .ensures) (at-both .both .ensures) (at-if1 .if1 .left)
+
+pub pp-binder-name-spec : {M : Type 1} → statement M
+pp-binder-name-spec =
+    tie.close
+    (tie.spec
+    binder-name-requires
+    is-anonymous-requires
+    is-used-requires
+    both-requires
+    put-word-requires
+    same-length
+    same-length-2
+    returns
+    pp-name-safe-requires
+    same-length-3
+    same-length-4
+    returns-2)

@@ -1,0 +1,2 @@
+// Levels, sorts and level lists to documents.
+pub mod levels;

@@ -1,0 +1,22 @@
+-- The references of the C functions, as their contracts speak of them: a function returns the number v, and leaves what the definition
+-- makes of the areas it was lent.
+use mathlib.Core.List.{List}
+use mathlib.Core.Path.{_≡_}
+use Prim.Native.Nat.{ℕ}
+use Rattle.pool_check.specs.declared.Verdict.{Verdict}
+use Rattle.basics.specs.Lent.{Area, was, left}
+use Rattle.layout.specs.Call as call
+use Rattle.lister.specs.Prints as prints
+use Rattle.lister.specs.Frames.{lentAreas, leftAreas}
+use Rattle.lister_c.specs.Reports.{checked, laid, printed}
+
+abbrev pub Checks : Area → ℕ → Verdict → Type 0
+Checks out v verdict = record { number = v; out = left out } ≡ checked verdict (was out)
+
+abbrev pub LaysOut : Area → Area → ℕ → (List ℕ → call.Outcome) → Type 0
+LaysOut listing out v defined = record { number = v; listing = left listing; out = left out } ≡ laid (defined (was listing)) (was out)
+
+abbrev pub Prints : Area → Area → Area → Area → ℕ → (prints.Areas → prints.Outcome) → Type 0
+Prints rows text listing out v defined =
+    record { number = v; areas = leftAreas rows text listing; out = left out }
+    ≡ printed (defined (lentAreas rows text listing)) (was out)

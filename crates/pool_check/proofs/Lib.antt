@@ -1,0 +1,4 @@
+pub mod Scan
+pub mod Decide
+pub mod Verdicts
+pub mod Acceptance

@@ -1,0 +1,65 @@
+-- 01, From the input: "Check order as listed; tables in order, rows rising." Numbers 1 to 4.
+use Prim.Native.Nat.{ℕ, zero, suc}
+use mathlib.Core.Bool.{Bool, _&&_, cond}
+use mathlib.Core.List.{List}
+use lib.Dec.{ltb, leb, eqb}
+use lib.ListN.{length}
+use Rattle.pool_check.specs.declared.Verdict.{Verdict}
+use Rattle.pool_check.specs.declared.Verdict.the-variants.{Accepted, Words, Limit, Strings, Rows}
+use Rattle.pool.specs.Tables.{Pool, pool, S, N, L, K, Q, E, D, total}
+use Rattle.pool.specs.Rules.{stringOk, nameOk, levelOk, listOk, listEntryOk, exprOk, declarOk}
+
+-- 01's number of each case, 0 for none
+unfoldable pub number : Verdict → ℕ
+number Accepted = 0
+number Words = 1
+number Limit = 2
+number (Strings row) = 3
+number (Rows row) = 4
+
+-- "for 3, 4 and 9 the first faulty row in its table (0 for counts) .. else 0"
+unfoldable pub place : Verdict → ℕ
+place Accepted = 0
+place Words = 0
+place Limit = 0
+place (Strings row) = row
+place (Rows row) = row
+
+-- "1: words short of the head, or total wrong."
+abbrev pub wordsOk : List ℕ → Bool
+wordsOk ws = leb 7 (length ws) && eqb (total ws) (length ws)
+
+-- "2: a count or byte area over its limit.": "each at most 65,536", "at most 16,777,216 bytes"
+abbrev pub countOk : ℕ → Bool
+countOk n = leb n 65536
+
+abbrev pub limitsOk : List ℕ → List ℕ → Bool
+limitsOk bs ws =
+    countOk (S ws)
+    && (countOk (N ws)
+    && (countOk (L ws)
+    && (countOk (K ws) && (countOk (Q ws) && (countOk (E ws) && (countOk (D ws) && leb (length bs) 16777216))))))
+
+-- the first of `left` rows from r on that is not ok, or the row after them
+unfoldable pub firstBad : (ℕ → Bool) → ℕ → ℕ → ℕ
+firstBad ok zero r = r
+firstBad ok (suc left) r = cond (ok r) (firstBad ok left (suc r)) r
+
+-- a table of so many rows: what is refused at its first bad row, or what comes after the table
+abbrev pub inTable : (ℕ → Bool) → ℕ → (ℕ → Verdict) → Verdict → Verdict
+inTable ok count refused next = let r : ℕ = firstBad ok count 0 in cond (ltb r count) (refused r) next
+
+-- "3: a string pair. 4: any other row rule.": "tables in order, rows rising"
+unfoldable pub rowsVerdict : Pool → Verdict
+rowsVerdict p =
+    inTable (stringOk p) (S (p .names)) Strings
+    (inTable (nameOk p) (N (p .names)) Rows
+    (inTable (levelOk p) (L (p .words)) Rows
+    (inTable (listOk p) (K (p .words)) Rows
+    (inTable (listEntryOk p) (Q (p .words)) Rows
+    (inTable (exprOk p) (E (p .words)) Rows (inTable (declarOk p) (D (p .words)) Rows Accepted))))))
+
+unfoldable pub verdict : List ℕ → List ℕ → Verdict
+verdict bs ws =
+    let rows : Verdict = rowsVerdict (pool bs ws) in
+    cond (wordsOk ws) (cond (limitsOk bs ws) rows Limit) Words

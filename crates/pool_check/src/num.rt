@@ -1,0 +1,42 @@
+// Depths of lower rows, and unused words.
+use basics::bools::both;
+ghost use mathlib.Core.Path.{_≡_};
+ghost use Prim.Native.Nat.{_<_};
+ghost use mathlib.Core.List.{_∷_, []};
+ghost use lib.ListN.{getD};
+ghost use Rattle.pool.specs.Rules.{unused};
+
+// The depth of row i, 0 past the end.
+pub(crate) fn depth_at(depths: &[u8], i: usize) -> usize
+    ensures { λ r. ⌜ (r ≡ getD (now (depths .entry)) i 0) × (r < 256) ⌝ }
+{
+    if i < depths.len() {
+        return depths[i] as usize;
+    }
+    0
+}
+
+// "Unused words are 0."
+pub(crate) fn unused1(a: usize) -> bool
+    ensures { λ r. ⌜ r ≡ unused (a ∷ []) ⌝ }
+{
+    a == 0
+}
+
+pub(crate) fn unused2(a: usize, b: usize) -> bool
+    ensures { λ r. ⌜ r ≡ unused (a ∷ b ∷ []) ⌝ }
+{
+    both(a == 0, unused1(b))
+}
+
+pub(crate) fn unused3(a: usize, b: usize, c: usize) -> bool
+    ensures { λ r. ⌜ r ≡ unused (a ∷ b ∷ c ∷ []) ⌝ }
+{
+    both(a == 0, unused2(b, c))
+}
+
+pub(crate) fn unused4(a: usize, b: usize, c: usize, d: usize) -> bool
+    ensures { λ r. ⌜ r ≡ unused (a ∷ b ∷ c ∷ d ∷ []) ⌝ }
+{
+    both(a == 0, unused3(b, c, d))
+}

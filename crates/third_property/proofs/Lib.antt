@@ -1,0 +1,5 @@
+pub mod LayoutLaws
+pub mod PlaceLaws
+pub mod WalkLaws
+pub mod ThirdProperty
+pub mod TwoRuns
