@@ -2,4 +2,6 @@ pub mod LayoutLaws
 pub mod PlaceLaws
 pub mod WalkLaws
 pub mod ThirdProperty
+pub mod SuccessLaws
+pub mod Decisions
 pub mod TwoRuns

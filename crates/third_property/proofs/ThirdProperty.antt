@@ -34,9 +34,9 @@ use Rattle.lister.specs.declared.Answer.the-variants.{Done, Pool as Answer·Poo
 use Rattle.lister.specs.Answers.{number, place, stopAnswer, ofLaid}
 use Rattle.lister.specs.Source.{Source, poolOf, judged, isAccepted}
 use Rattle.lister.specs.Prints.{Areas, Outcome, untouched, cleared, filled, listed, afterWalk, printDoc, sizesOk, checked, printExpr, printDeclar}
-use Rattle.third_property.specs.ThirdProperty.{Print, expression, declaration, call, rootsIn, rootDoc, SameTree, Run, Rooted, Succeeded, listing, document, Taken}
+use Rattle.third_property.specs.ThirdProperty.{Print, expression, declaration, call, rootsIn, rootDoc, SameTree, Run, Returned, Rooted, Succeeded, listing, document, Taken}
 use Rattle.third_property.specs.ThirdProperty.{SameCounts, EndAlike, refused, succeeded, defined, walked, laid, reported, Stands, AsDefined, sizes, stops, short, lists}
-use Rattle.third_property.specs.ThirdProperty.{SameDocument, PutBack, StartsRows, HoldsWidth, ThirdProperty}
+use Rattle.third_property.specs.ThirdProperty.{SameDocument, PutBack, StartsRows, HoldsWidth, OneRun, TwoRuns, ThirdProperty}
 use Rattle.layout.proofs.Answers.{written}
 use Rattle.basics.proofs.Booleans.{true-false}
 use Rattle.lister.proofs.Beginning.{accepted-is}
@@ -122,7 +122,7 @@ listed-answer false c = refl
 
 -- ---- a run over an accepted pool that has the root
 
-module _ {k : Print} (r : Run k) (rooted : Rooted r) where
+module _ {k : Print} (r : Run k) (returned : Returned r) (rooted : Rooted r) where
   abbrev outcome : Outcome
   outcome = record { answer = r .answer; areas = r .left }
 
@@ -130,12 +130,12 @@ module _ {k : Print} (r : Run k) (rooted : Rooted r) where
   d = plain (defined r)
 
   rooted-is : outcome ≡ cond (sizesOk (r .indent) (r .width)) (printDoc (defined r) (r .width) (r .lent)) (untouched Size (r .lent))
-  rooted-is = r .returns ∙ rooted-call k (r .source) (r .root) (r .indent) (r .width) (r .lent) (rooted .accepted) (rooted .root-there)
+  rooted-is = returned ∙ rooted-call k (r .source) (r .root) (r .indent) (r .width) (r .lent) (rooted .accepted) (rooted .root-there)
 
   size-is : sizesOk (r .indent) (r .width) ≡ false → outcome ≡ untouched Size (r .lent)
   size-is e = rooted-is ∙ ap (λ (b : Bool). cond b (printDoc (defined r) (r .width) (r .lent)) (untouched Size (r .lent))) e
 
-  walk-is : sizesOk (r .indent) (r .width) ≡ true → outcome ≡ afterWalk (walked r) d (r .width) (r .lent)
+  pub walk-is : sizesOk (r .indent) (r .width) ≡ true → outcome ≡ afterWalk (walked r) d (r .width) (r .lent)
   unfolding printDoc
   walk-is e = rooted-is ∙ ap (λ (b : Bool). cond b (printDoc (defined r) (r .width) (r .lent)) (untouched Size (r .lent))) e
 
@@ -150,7 +150,7 @@ module _ {k : Print} (r : Run k) (rooted : Rooted r) where
         let e = ap (λ (o : Outcome). o .areas) listed-is in
         record { rows = ap (λ (a : Areas). a .rows) e; text = ap (λ (a : Areas). a .text) e; listing = ap (λ (a : Areas). a .listing) e }
 
-    answer-is : r .answer ≡ cond (ltb (length (r .lent .listing)) (length (bytesOf (laid r)))) Listing (Done (countsOf rows text (laid r)))
+    pub answer-is : r .answer ≡ cond (ltb (length (r .lent .listing)) (length (bytesOf (laid r)))) Listing (Done (countsOf rows text (laid r)))
     unfolding listed layout.listed
     answer-is =
         ap (λ (o : Outcome). o .answer) listed-is
@@ -219,10 +219,10 @@ record Listed {k : Print} (r : Run k) (s : Succeeded r) : Type 0 where
   document-is : document r s ≡ plain (defined r)
   counts-are : SameCounts (s .counts) (reported r)
 
-module _ {k : Print} (r : Run k) (unrefused : number (r .answer) ≡ 0) where
+module _ {k : Print} (r : Run k) (returned : Returned r) (unrefused : number (r .answer) ≡ 0) where
   unrefused-rooted : Rooted r
   unrefused-rooted =
-      let o : r .answer ≡ call k (r .source) (r .root) (r .indent) (r .width) (r .lent) .answer = ap (λ (x : Outcome). x .answer) (r .returns) in
+      let o : r .answer ≡ call k (r .source) (r .root) (r .indent) (r .width) (r .lent) .answer = ap (λ (x : Outcome). x .answer) returned in
       let c = call-done k (r .source) (r .root) (r .indent) (r .width) (r .lent) (sym (ap number o) ∙ unrefused) in
       record { accepted = c .0; root-there = ltb-true (r .root) (rootsIn k (r .source)) (c .1) }
 
@@ -237,9 +237,9 @@ module _ {k : Print} (r : Run k) (unrefused : number (r .answer) ≡ 0) where
       then s (record { stands = st; listing-is = l; document-is = doc; counts-are = counts })
 
   unrefused-succeeds : Succeeded r
-  unrefused-succeeds = only-lists (as-defined-run r unrefused-rooted) (λ s l. s)
+  unrefused-succeeds = only-lists (as-defined-run r returned unrefused-rooted) (λ s l. s)
 
-module _ {k : Print} (r : Run k) (s : Succeeded r) where
+module _ {k : Print} (r : Run k) (returned : Returned r) (s : Succeeded r) where
   success : number (r .answer) ≡ 0
   unfolding number
   success = ap number (s .answered)
@@ -249,7 +249,7 @@ module _ {k : Print} (r : Run k) (s : Succeeded r) where
 
   success-listed : Listed r s
   success-listed =
-      only-lists r success (as-defined-run r (unrefused-rooted r success)) (λ t l. subst-listed t (same-answer t) l)
+      only-lists r returned success (as-defined-run r returned (unrefused-rooted r returned success)) (λ t l. subst-listed t (same-answer t) l)
     where
       subst-listed : (t : Succeeded r) → t .counts ≡ s .counts → Listed r t → Listed r s
       subst-listed t c l =
@@ -265,10 +265,10 @@ module _ {k : Print} (r : Run k) (s : Succeeded r) where
 
 -- ---- the clauses, of one run that succeeds
 
-module _ {k : Print} (r : Run k) (s : Succeeded r) where
+module _ {k : Print} (r : Run k) (returned : Returned r) (s : Succeeded r) where
   listed-in : (d : Doc) → document r s ≡ d → listing r s ≡ bytesOf (pieces (r .width) d)
   listed-in d e =
-      let l = success-listed r s in
+      let l = success-listed r returned s in
       l .listing-is ∙ ap (λ (x : Doc). bytesOf (pieces (r .width) x)) (sym (l .document-is) ∙ e)
 
   put-back-in : (d : Doc) → document r s ≡ d → PutBack r s d
@@ -297,7 +297,7 @@ counts-through h e k =
       longest = h .longest ∙ ap (λ (c : Counts). c .longest) e ∙ sym (k .longest);
     }
 
-module _ {k : Print} (a b : Run k) (taken : Taken a b) where
+module _ {k : Print} (a b : Run k) (returned : Returned a) (returned′ : Returned b) (taken : Taken a b) where
   docs-like : Like (defined a) (defined b)
   docs-like =
       subst (λ (i : ℕ). Like (defined a) (rootDoc k i (poolOf (b .source)) (b .root))) (taken .indent)
@@ -318,8 +318,8 @@ module _ {k : Print} (a b : Run k) (taken : Taken a b) where
 
   same-document-runs : (s : Succeeded a) (t : Succeeded b) → SameDocument a b s t
   same-document-runs s t =
-      let x = success-listed a s in
-      let y = success-listed b t in
+      let x = success-listed a returned s in
+      let y = success-listed b returned′ t in
       record {
         row-count = x .counts-are .rows ∙ ap rowCount same-doc ∙ sym (y .counts-are .rows);
         byte-count = x .counts-are .text ∙ ap (λ (d : Doc). length (textBytes d)) same-doc ∙ sym (y .counts-are .text);
@@ -397,18 +397,31 @@ module _ {k : Print} (a b : Run k) (taken : Taken a b) where
     both-alike (lists s ok e l st i j c) (lists t ok′ f l′ st′ i′ j′ c′) = listed-alike s t i i′ c c′
 
     alike-runs : EndAlike a b
-    alike-runs = both-alike (as-defined-run a (taken .first)) (as-defined-run b (taken .second))
+    alike-runs = both-alike (as-defined-run a returned (taken .first)) (as-defined-run b returned′ (taken .second))
 
 -- ---- the whole
 
-pub third-property : (k : Print) → ThirdProperty k
-third-property k =
+one-run : {k : Print} (r : Run k) → Returned r → OneRun r
+one-run r returned =
     record {
-      end-alike = λ a b taken width. alike-runs a b taken width;
-      as-defined = λ r rooted. as-defined-run r rooted;
-      succeeds = λ r unrefused. unrefused-succeeds r unrefused;
-      same-document = λ a b taken s t. same-document-runs a b taken s t;
-      put-back = λ a b taken s t. (put-back-in a s (document a s) refl, put-back-in b t (document a s) (sym (same-document-runs a b taken s t .shared)));
-      starts-rows = λ r s. starts r s;
-      holds-width = λ r s. holds r s;
+      as-defined = λ rooted. as-defined-run r returned rooted;
+      succeeds = λ unrefused. unrefused-succeeds r returned unrefused;
+      starts-rows = λ s. starts r returned s;
+      holds-width = λ s. holds r returned s;
     }
+
+two-runs : {k : Print} (a b : Run k) → Returned a → Returned b → TwoRuns a b
+two-runs a b returned returned′ =
+    record {
+      end-alike = λ taken width. alike-runs a b returned returned′ taken width;
+      same-document = λ taken s t. same-document-runs a b returned returned′ taken s t;
+      put-back = λ taken s t. (
+        put-back-in a returned s (document a s) refl,
+        put-back-in b returned′ t (document a s) (sym (same-document-runs a b returned returned′ taken s t .shared)),
+      );
+      first = one-run a returned;
+      second = one-run b returned′;
+    }
+
+pub third-property : (k : Print) → ThirdProperty k
+third-property k = record { one = λ r returned. one-run r returned; two = λ a b returned returned′. two-runs a b returned returned′ }

@@ -51,4 +51,4 @@ taken =
     }
 
 pub same-document : SameDocument first second first-succeeds second-succeeds
-same-document = third-property expression .same-document first second taken first-succeeds second-succeeds
+same-document = third-property expression .two first second refl refl .same-document taken first-succeeds second-succeeds

@@ -54,7 +54,7 @@ SameTree expression p r q s = forget (exprAt p r) ≡ forget (exprAt q s)
 SameTree declaration p r q s = forgetᵈ (declarAt p r) ≡ forgetᵈ (declarAt q s)
 
 -- "a run is one call of print expression or print declaration, listing included": what the call was given and lent, its answer, and the
--- areas it left; `returns` is the contract of `lister::print_expr` or `lister::print_declar`
+-- areas it left
 pub record Run (k : Print) : Type 0 where
   pub source : Source
   pub root : ℕ
@@ -63,7 +63,11 @@ pub record Run (k : Print) : Type 0 where
   pub lent : Areas
   pub answer : Answer
   pub left : Areas
-  pub returns : record { answer = answer; areas = left } ≡ call k source root indent width lent
+
+-- a call returned it: what `lister::print_expr` or `lister::print_declar` ensures
+abbrev pub Returned : {k : Print} → Run k → Type 0
+Returned {k} r =
+    record { answer = r .answer; areas = r .left } ≡ call k (r .source) (r .root) (r .indent) (r .width) (r .lent)
 
 -- the run that a call is
 abbrev pub runOf : (k : Print) (source : Source) (root indent width : ℕ) → Areas → Run k
@@ -76,7 +80,6 @@ runOf k source root indent width areas =
       lent = areas;
       answer = call k source root indent width areas .answer;
       left = call k source root indent width areas .areas;
-      returns = refl;
     }
 
 -- "An accepted pool is one that check refuses under no number", and the root is in it
@@ -187,15 +190,27 @@ pub record HoldsWidth {k : Print} (r : Run k) (s : Succeeded r) : Type 0 where
 
 -- ---- the whole
 
-pub record ThirdProperty (k : Print) : Type 0 where
-  -- "Whatever the width, the two runs at that width end alike"
-  pub end-alike : (a b : Run k) → Taken a b → a .width ≡ b .width → EndAlike a b
-  pub as-defined : (r : Run k) → Rooted r → AsDefined r
+-- what holds of one run
+pub record OneRun {k : Print} (r : Run k) : Type 0 where
+  -- "Each refusal, document and listing, .. is the one 01 defines for its run's root"
+  pub as-defined : Rooted r → AsDefined r
   -- "it succeeds when no number refuses it"
-  pub succeeds : (r : Run k) → number (r .answer) ≡ 0 → Succeeded r
-  -- "Whatever the two widths"
-  pub same-document : (a b : Run k) → Taken a b → (s : Succeeded a) (t : Succeeded b) → SameDocument a b s t
-  pub put-back : (a b : Run k) → Taken a b → (s : Succeeded a) (t : Succeeded b) → PutBack a s (document a s) × PutBack b t (document a s)
+  pub succeeds : number (r .answer) ≡ 0 → Succeeded r
   -- "In every run that succeeds"
-  pub starts-rows : (r : Run k) (s : Succeeded r) → StartsRows r s
-  pub holds-width : (r : Run k) (s : Succeeded r) → HoldsWidth r s
+  pub starts-rows : (s : Succeeded r) → StartsRows r s
+  pub holds-width : (s : Succeeded r) → HoldsWidth r s
+
+-- and of two
+pub record TwoRuns {k : Print} (a b : Run k) : Type 0 where
+  -- "Whatever the width, the two runs at that width end alike"
+  pub end-alike : Taken a b → a .width ≡ b .width → EndAlike a b
+  -- "Whatever the two widths"
+  pub same-document : Taken a b → (s : Succeeded a) (t : Succeeded b) → SameDocument a b s t
+  pub put-back : Taken a b → (s : Succeeded a) (t : Succeeded b) → PutBack a s (document a s) × PutBack b t (document a s)
+  pub first : OneRun a
+  pub second : OneRun b
+
+-- of whatever calls return
+pub record ThirdProperty (k : Print) : Type 0 where
+  pub one : (r : Run k) → Returned r → OneRun r
+  pub two : (a b : Run k) → Returned a → Returned b → TwoRuns a b

@@ -69,8 +69,11 @@ returns-2 c =
 pp-nat-requires : tie.Need-pp-nat-requires
 pp-nat-requires c κs =
     let at-expr-kind = c .before .before .before .before .before .before in
-    let start = at-expr-kind .before .before .before .before .before .before in
-    (start .pre .0 .ready, nat-row _ (start .pre .0 .ready .sound) _ (start .pre .1) _ _ (at-expr-kind .expr-kind .ensures .0) (c .before .before .before .literal-string .ensures .0) (c .before .before .if3 .taken))
+    let start = at-expr-kind .before .before .before .before .before .before in (
+      start .pre .0 .ready,
+      nat-row _ (start .pre .0 .ready .sound) _ (start .pre .1) _ _ (at-expr-kind .expr-kind .ensures .0)
+          (c .before .before .before .literal-string .ensures .0) (c .before .before .if3 .taken),
+    )
 
 same-length-5 : tie.Need-same-length-5
 same-length-5 c = search needs
@@ -85,7 +88,8 @@ returns-3 c =
     let at-literal-string = at-if3 .before in
     let at-expr-kind = at-literal-string .before .before .before in
     let start = at-expr-kind .before .before .before .before .before .before in
-    at-pp-nat .pp-nat .ensures ∙ nat-leaf _ (start .pre .0 .ready .sound) _ (start .pre .1) _ _ (at-expr-kind .expr-kind .ensures .0) (at-literal-string .literal-string .ensures .0) (at-if3 .if3 .taken) _
+    at-pp-nat .pp-nat .ensures
+    ∙ nat-leaf _ (start .pre .0 .ready .sound) _ (start .pre .1) _ _ (at-expr-kind .expr-kind .ensures .0) (at-literal-string .literal-string .ensures .0) (at-if3 .if3 .taken) _
 
 pp-string-requires : tie.Need-pp-string-requires
 pp-string-requires c κs =

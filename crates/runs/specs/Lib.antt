@@ -1,0 +1,2 @@
+-- what a reader must believe: what the functions ensure
+pub mod Calls
