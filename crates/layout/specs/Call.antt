@@ -3,7 +3,7 @@ use Prim.Native.Nat.{ℕ, _-_}
 use mathlib.Core.Bool.{cond}
 use mathlib.Core.List.{List}
 use lib.ListN.{length}
-use lib.Dec.{ltb}
+use lib.Dec.{ltb, eqb}
 use Rattle.document.specs.Doc.{Doc}
 use Rattle.document.specs.Rows.{docAt, fault, countsOk}
 use Rattle.layout.specs.declared.Counts.{Counts}
@@ -27,6 +27,10 @@ place (Done counts) = 0
 place (Document row) = row
 place Width = 0
 place Listing = 0
+
+-- the case that is refused under each number, at a place
+abbrev pub refusal : ℕ → ℕ → Laid
+refusal n at = cond (eqb n 9) (Document at) (cond (eqb n 6) Width Listing)
 
 -- an answer, and the listing area afterwards
 pub record Outcome : Type 0 where
@@ -54,7 +58,7 @@ countsOf rows text ps =
 unfoldable pub listed : ℕ → ℕ → List Piece → List ℕ → Outcome
 listed rows text ps area =
     record {
-      answer = cond (ltb (length area) (length (bytesOf ps))) Listing (Done (countsOf rows text ps));
+      answer = cond (ltb (length area) (length (bytesOf ps))) (refusal 22 0) (Done (countsOf rows text ps));
       listing = paint area 0 (bytesOf ps);
     }
 
@@ -66,7 +70,7 @@ docOf rows count texts = docAt rows texts count (count - 1)
 unfoldable pub outcome : List ℕ → ℕ → List ℕ → ℕ → ℕ → List ℕ → Outcome
 outcome rows count texts total width area =
     cond (countsOk (length rows) count (length texts) total)
-    (cond (ltb (fault rows total count) count) (untouched (Document (fault rows total count)) area)
-    (cond (ltb 65535 width) (untouched Width area)
+    (cond (ltb (fault rows total count) count) (untouched (refusal 9 (fault rows total count)) area)
+    (cond (ltb 65535 width) (untouched (refusal 6 0) area)
     (listed count total (pieces width (docOf rows count texts)) area)))
-    (untouched (Document 0) area)
+    (untouched (refusal 9 0) area)

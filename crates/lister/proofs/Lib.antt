@@ -1,3 +1,4 @@
 pub mod AnswerLaws
+pub mod NumberLaws
 pub mod Beginning
 pub mod Finishing

@@ -37,10 +37,14 @@ place Listing = 0
 unfoldable pub stopAnswer : ℕ → ℕ → Answer
 stopAnswer n at = cond (eqb n 7) (Names at) (cond (eqb n 8) (Document at) (cond (eqb n 20) (RowArea at) (TextArea at)))
 
+-- the case that is refused under each number from 5 on, at a place
+abbrev pub refusal : ℕ → ℕ → Answer
+refusal n at = cond (eqb n 5) Root (cond (eqb n 6) Size (cond (eqb n 22) Listing (stopAnswer n at)))
+
 -- the answer for the layout of the document that was printed: its counts, or 22. It is refused under no other number: the document is
 -- accepted, and the width was tested before
 unfoldable pub ofLaid : Laid → Answer
 ofLaid (laids.Done counts) = Done counts
-ofLaid (laids.Document row) = Listing
-ofLaid laids.Width = Listing
-ofLaid laids.Listing = Listing
+ofLaid (laids.Document row) = refusal 22 0
+ofLaid laids.Width = refusal 22 0
+ofLaid laids.Listing = refusal 22 0

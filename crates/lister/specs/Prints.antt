@@ -16,8 +16,8 @@ use Rattle.binders.specs.Options.{indented}
 use Rattle.pretty_printer.specs.Exprs.{exprDoc}
 use Rattle.declarations.specs.Declars.{declarDoc}
 use Rattle.lister.specs.declared.Answer.{Answer}
-use Rattle.lister.specs.declared.Answer.the-variants.{Pool, Root, Size}
-use Rattle.lister.specs.Answers.{stopAnswer, ofLaid}
+use Rattle.lister.specs.declared.Answer.the-variants.{Pool}
+use Rattle.lister.specs.Answers.{stopAnswer, refusal, ofLaid}
 use Rattle.lister.specs.Source.{Source, poolOf, judged, isAccepted}
 
 -- "the lent areas are those a call may write"
@@ -81,7 +81,7 @@ sizesOk indent width = leb indent 64 && leb width 65535
 -- "Check order as listed": 1 to 4, then 5, then 6, then what the print itself meets
 unfoldable pub checked : Verdict → Bool → Bool → Outcome → Areas → Outcome
 checked v hasRoot sizes print areas =
-    cond (isAccepted v) (cond hasRoot (cond sizes print (untouched Size areas)) (untouched Root areas))
+    cond (isAccepted v) (cond hasRoot (cond sizes print (untouched (refusal 6 0) areas)) (untouched (refusal 5 0) areas))
     (untouched (Pool v) areas)
 
 unfoldable pub printExpr : Source → ℕ → ℕ → ℕ → Areas → Outcome

@@ -25,6 +25,10 @@ place Limit = 0
 place (Strings row) = row
 place (Rows row) = row
 
+-- the case that is refused under each number, at a place
+abbrev pub refusal : ℕ → ℕ → Verdict
+refusal n at = cond (eqb n 1) Words (cond (eqb n 2) Limit (cond (eqb n 3) (Strings at) (Rows at)))
+
 -- "1: words short of the head, or total wrong."
 abbrev pub wordsOk : List ℕ → Bool
 wordsOk ws = leb 7 (length ws) && eqb (total ws) (length ws)
@@ -52,14 +56,14 @@ inTable ok count refused next = let r : ℕ = firstBad ok count 0 in cond (ltb r
 -- "3: a string pair. 4: any other row rule.": "tables in order, rows rising"
 unfoldable pub rowsVerdict : Pool → Verdict
 rowsVerdict p =
-    inTable (stringOk p) (S (p .names)) Strings
-    (inTable (nameOk p) (N (p .names)) Rows
-    (inTable (levelOk p) (L (p .words)) Rows
-    (inTable (listOk p) (K (p .words)) Rows
-    (inTable (listEntryOk p) (Q (p .words)) Rows
-    (inTable (exprOk p) (E (p .words)) Rows (inTable (declarOk p) (D (p .words)) Rows Accepted))))))
+    inTable (stringOk p) (S (p .names)) (refusal 3)
+    (inTable (nameOk p) (N (p .names)) (refusal 4)
+    (inTable (levelOk p) (L (p .words)) (refusal 4)
+    (inTable (listOk p) (K (p .words)) (refusal 4)
+    (inTable (listEntryOk p) (Q (p .words)) (refusal 4)
+    (inTable (exprOk p) (E (p .words)) (refusal 4) (inTable (declarOk p) (D (p .words)) (refusal 4) Accepted))))))
 
 unfoldable pub verdict : List ℕ → List ℕ → Verdict
 verdict bs ws =
     let rows : Verdict = rowsVerdict (pool bs ws) in
-    cond (wordsOk ws) (cond (limitsOk bs ws) rows Limit) Words
+    cond (wordsOk ws) (cond (limitsOk bs ws) rows (refusal 2 0)) (refusal 1 0)

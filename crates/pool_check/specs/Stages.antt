@@ -4,10 +4,10 @@ use mathlib.Core.Bool.{Bool, _&&_}
 use lib.Dec.{leb}
 use Rattle.pool.specs.declared.tables.Tables.{Tables}
 use Rattle.pool_check.specs.declared.Verdict.{Verdict}
-use Rattle.pool_check.specs.declared.Verdict.the-variants.{Accepted, Rows}
+use Rattle.pool_check.specs.declared.Verdict.the-variants.{Accepted}
 use Rattle.pool.specs.Tables.{Pool, L, K, Q, E, D}
 use Rattle.pool.specs.Rules.{levelOk, listOk, listEntryOk, exprOk, declarOk}
-use Rattle.pool_check.specs.Check.{countOk, inTable}
+use Rattle.pool_check.specs.Check.{countOk, inTable, refusal}
 
 abbrev pub limits : Tables → ℕ → Bool
 limits t size =
@@ -24,7 +24,7 @@ pub record Small (t : Tables) : Type 0 where
 
 unfoldable pub wordsVerdict : Pool → Verdict
 wordsVerdict p =
-    inTable (levelOk p) (L (p .words)) Rows
-    (inTable (listOk p) (K (p .words)) Rows
-    (inTable (listEntryOk p) (Q (p .words)) Rows
-    (inTable (exprOk p) (E (p .words)) Rows (inTable (declarOk p) (D (p .words)) Rows Accepted))))
+    inTable (levelOk p) (L (p .words)) (refusal 4)
+    (inTable (listOk p) (K (p .words)) (refusal 4)
+    (inTable (listEntryOk p) (Q (p .words)) (refusal 4)
+    (inTable (exprOk p) (E (p .words)) (refusal 4) (inTable (declarOk p) (D (p .words)) (refusal 4) Accepted))))

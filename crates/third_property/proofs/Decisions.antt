@@ -16,6 +16,7 @@ use Rattle.lister.specs.declared.Answer.{Answer}
 use Rattle.lister.specs.declared.Answer.the-variants.{Done, Listing}
 use Rattle.lister.specs.Answers.{number, place, stopAnswer}
 use Rattle.lister.specs.Prints.{Outcome, sizesOk, afterWalk, cleared}
+use Rattle.lister.proofs.NumberLaws.{names, document, row-area, text-area, refusal-reports}
 use Rattle.third_property.specs.ThirdProperty.{Print, Run, Returned, Rooted, Succeeded, defined, walked, laid}
 use Rattle.third_property.specs.Success.{rowEvents, byteEvents, Fits, Refused, too-many-names, byte-past-limit, text-area-full, row-past-limit}
 use Rattle.third_property.specs.Success.{row-area-full, FirstRefused, DocumentFits, Reports, Ends, success, listing-short, stop, Decided}
@@ -24,12 +25,11 @@ use Rattle.third_property.proofs.ThirdProperty.{walk-is, answer-is}
 
 -- an event's refusal is answered under its number, at its place
 stop-reports : {R T rows bytes : ℕ} {e : Event} {n at : ℕ} → Refused R T rows bytes e n at → (number (stopAnswer n at) ≡ n) × (place (stopAnswer n at) ≡ at)
-unfolding stopAnswer number place
-stop-reports (too-many-names p c h) = (refl, refl)
-stop-reports (byte-past-limit h) = (refl, refl)
-stop-reports (text-area-full h k) = (refl, refl)
-stop-reports (row-past-limit h) = (refl, refl)
-stop-reports (row-area-full h k) = (refl, refl)
+stop-reports (too-many-names p c h) = refusal-reports (names p)
+stop-reports (byte-past-limit h) = refusal-reports (document _)
+stop-reports (text-area-full h k) = refusal-reports (text-area _)
+stop-reports (row-past-limit h) = refusal-reports (document _)
+stop-reports (row-area-full h k) = refusal-reports (row-area _)
 
 -- and no refusal has the number 0
 refused-some : {R T rows bytes : ℕ} {e : Event} {n at : ℕ} → Refused R T rows bytes e n at → 1 ≤ n
