@@ -1,4 +1,4 @@
-// Prints of a pool that was checked before, so that many prints of one pool check it once.
+// What the two prints do once check has accepted the pool, and root and sizes are found to be within their limits.
 use crate::Answer;
 use binders::printer::Printer;
 use declarations::listing;

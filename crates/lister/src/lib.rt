@@ -20,7 +20,7 @@ ghost use Rattle.lister.specs.Handing.{handOut};
 ghost use Rattle.lister.specs.Frames.{given, Prints};
 ghost use Rattle.lister.specs.Stages.{mayPrint};
 
-pub mod checked;
+mod checked;
 mod handing;
 
 // What a print answers: the counts of a print that succeeded, or the case of a refusal with its place.
