@@ -12,8 +12,8 @@ use Rattle.layout.specs.declared.Laid.the-variants as laids
 use Rattle.layout.specs.Call as layout
 use Rattle.pool_check.specs.declared.Verdict.{Verdict}
 use Rattle.lister.specs.declared.Answer.{Answer}
-use Rattle.lister.specs.declared.Answer.the-variants.{Pool, Root, Size}
-use Rattle.lister.specs.Answers.{number, stopAnswer, ofLaid}
+use Rattle.lister.specs.declared.Answer.the-variants.{Pool}
+use Rattle.lister.specs.Answers.{number, refusal, stopAnswer, ofLaid}
 use Rattle.lister.specs.Source.{isAccepted}
 use Rattle.lister.specs.Prints.{Areas, Outcome, untouched, cleared, listed, afterWalk, printDoc, checked}
 
@@ -57,7 +57,7 @@ unfolding checked untouched Late
 early-refusals-change-no-area v hasRoot sizes print areas late = by (isAccepted v) hasRoot sizes
   where
     answered : Bool → Bool → Bool → Outcome
-    answered a p s = cond a (cond p (cond s print (untouched Size areas)) (untouched Root areas)) (untouched (Pool v) areas)
+    answered a p s = cond a (cond p (cond s print (untouched (refusal 6 0) areas)) (untouched (refusal 5 0) areas)) (untouched (Pool v) areas)
 
     by : (a p s : Bool) → 1 ≤ number (answered a p s .answer) → number (answered a p s .answer) ≤ 6 → answered a p s .areas ≡ areas
     by true true true h k = absurd (late h k)

@@ -1,4 +1,5 @@
--- The case that a print refuses under a number has that number, and its place; what check and layout refuse has their number in a print too.
+-- The case that a print refuses under a number has that number, and its place. What check refuses has check's in a print too; so has layout's
+-- success, and its 22, the one number under which a printed document can be refused there.
 use Prim.Native.Nat.{ℕ}
 use mathlib.Core.Path.{_≡_, refl}
 use Rattle.layout.specs.declared.Counts.{Counts}
@@ -36,10 +37,12 @@ unfolding number place
 pool-reports v = (refl, refl)
 
 -- none, or 22: layout's
-pub done-reports : (counts : Counts) → number (ofLaid (laids.Done counts)) ≡ layout.number (laids.Done counts)
-unfolding number ofLaid
-done-reports counts = refl
+pub done-reports : (counts : Counts)
+    → (number (ofLaid (laids.Done counts)) ≡ layout.number (laids.Done counts)) × (place (ofLaid (laids.Done counts)) ≡ layout.place (laids.Done counts))
+unfolding number place ofLaid
+done-reports counts = (refl, refl)
 
-pub short-reports : number (ofLaid (layout.refusal 22 0)) ≡ layout.number (layout.refusal 22 0)
-unfolding number ofLaid
-short-reports = refl
+pub short-reports :
+    (number (ofLaid (layout.refusal 22 0)) ≡ layout.number (layout.refusal 22 0)) × (place (ofLaid (layout.refusal 22 0)) ≡ layout.place (layout.refusal 22 0))
+unfolding number place ofLaid
+short-reports = (refl, refl)

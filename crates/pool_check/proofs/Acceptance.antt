@@ -12,7 +12,7 @@ use Rattle.pool_check.specs.declared.Verdict.the-variants.{Accepted, Wor
 use Rattle.pool.specs.Tables.{Pool, pool, S, N, L, K, Q, E, D, total}
 use Rattle.pool.specs.Rules.{stringOk, nameOk, levelOk, listOk, listEntryOk, exprOk, declarOk}
 use Rattle.pool.specs.Sound.{Sound}
-use Rattle.pool_check.specs.Check.{firstBad, inTable, wordsOk, limitsOk, rowsVerdict, verdict}
+use Rattle.pool_check.specs.Check.{firstBad, inTable, refusal, wordsOk, limitsOk, rowsVerdict, verdict}
 use Rattle.basics.proofs.Booleans.{and-left, and-right}
 
 -- the words are as many as the head says, and the counts and the byte area are within their limits
@@ -111,7 +111,7 @@ pub accepted : (bs ws : List ℕ) → verdict bs ws ≡ Accepted → Limited bs 
 unfolding verdict
 accepted bs ws h = by (wordsOk ws) (limitsOk bs ws) refl refl h
   where
-    by : (a b : Bool) → wordsOk ws ≡ a → limitsOk bs ws ≡ b → cond a (cond b (rowsVerdict (pool bs ws)) Limit) Words ≡ Accepted
+    by : (a b : Bool) → wordsOk ws ≡ a → limitsOk bs ws ≡ b → cond a (cond b (rowsVerdict (pool bs ws)) (refusal 2 0)) (refusal 1 0) ≡ Accepted
         → Limited bs ws × Sound (pool bs ws)
     by true true u v k = (limited bs ws u v, rows-accepted (pool bs ws) k)
     by true false u v k = absurd (let z : _≡_ {A = ℕ} 0 1 = cc in omega arith)
