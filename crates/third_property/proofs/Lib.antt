@@ -1,3 +1,4 @@
+pub mod BreakLaws
 pub mod LayoutLaws
 pub mod PlaceLaws
 pub mod WalkLaws

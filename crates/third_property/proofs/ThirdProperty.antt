@@ -18,7 +18,8 @@ use Rattle.layout.specs.Layout.{Piece, pieces}
 use Rattle.layout.specs.Listing.{bytesOf}
 use Rattle.layout.specs.Call.{countsOf, docOf}
 use Rattle.layout.specs.Call as layout
-use Rattle.third_property.proofs.LayoutLaws.{blanks-put-back, places-of-layout, broken-exactly-when-all-failed, held-rows-within-width}
+use Rattle.third_property.proofs.LayoutLaws.{blanks-put-back, rows-joined, held-rows-within-width}
+use Rattle.third_property.proofs.BreakLaws.{met-pieces, places-of-rows}
 use Rattle.layout.specs.declared.Counts.{Counts}
 use Rattle.layout.specs.declared.Laid.the-variants as laids
 use Rattle.pool_check.specs.declared.Verdict.{Verdict}
@@ -36,7 +37,9 @@ use Rattle.lister.specs.Source.{Source, poolOf, judged, isAccepted}
 use Rattle.lister.specs.Prints.{Areas, Outcome, untouched, cleared, filled, listed, afterWalk, printDoc, sizesOk, checked, printExpr, printDeclar}
 use Rattle.third_property.specs.ThirdProperty.{Print, expression, declaration, call, rootsIn, rootDoc, SameTree, Run, Returned, Rooted, Succeeded, listing, document, Taken}
 use Rattle.third_property.specs.ThirdProperty.{SameCounts, EndAlike, refused, succeeded, defined, walked, laid, reported, Stands, AsDefined, sizes, stops, short, lists}
-use Rattle.third_property.specs.ThirdProperty.{SameDocument, PutBack, StartsRows, HoldsWidth, OneRun, TwoRuns, ThirdProperty}
+use Rattle.third_property.specs.ThirdProperty.{SameDocument, PutBack, metIn, StartsRows, HoldsWidth, OneRun, TwoRuns, ThirdProperty}
+use Rattle.third_property.specs.Claims.{rowsIn, Within}
+use Rattle.third_property.specs.Places.{piecesOf, failed, breakPlaces}
 use Rattle.layout.proofs.Answers.{written}
 use Rattle.basics.proofs.Booleans.{true-false}
 use Rattle.lister.proofs.Beginning.{accepted-is}
@@ -274,16 +277,37 @@ module _ {k : Print} (r : Run k) (returned : Returned r) (s : Succeeded r) where
   put-back-in : (d : Doc) → document r s ≡ d → PutBack r s d
   put-back-in d e = record { listed = listed-in d e; restores = blanks-put-back (r .width) d }
 
+  -- the layout's pieces, as they are met
+  pieces-met : piecesOf (metIn r s) ≡ pieces (r .width) (document r s)
+  pieces-met = met-pieces (r .width) (document r s)
+
+  -- the rows that are left are those that the document is stored in
+  rows-left : (r .left .rows ≡ stored 0 (document r s) ++ replicate (length (r .lent .rows) - length (stored 0 (document r s))) 0) × (s .counts .rows ≡ rowCount (document r s))
+  unfolding filled
+  rows-left =
+      let l = success-listed r returned s in
+      let e = sym (l .document-is) in (
+        l .stands .rows ∙ ap (λ (d : Doc). filled (r .lent .rows) (stored 0 d)) e,
+        l .counts-are .rows ∙ ap rowCount e,
+      )
+
   starts : StartsRows r s
   starts =
+      let left = rows-left in
       record {
-        listed = listed-in (document r s) refl;
-        breaks = places-of-layout (r .width) (document r s);
-        exactly = broken-exactly-when-all-failed (r .width) (document r s);
+        pieces-are = pieces-met;
+        listed = listed-in (document r s) refl ∙ ap bytesOf (sym pieces-met);
+        exactly =
+            places-of-rows (r .width) (document r s) (replicate (length (r .lent .rows) - length (stored 0 (document r s))) 0)
+            ∙ ap₂ (breakPlaces (failed (metIn r s))) (sym (left .0)) (sym (left .1));
       }
 
   holds : HoldsWidth r s
-  holds = record { listed = listed-in (document r s) refl; within = held-rows-within-width (r .width) (document r s) }
+  holds =
+      record {
+        listed = listed-in (document r s) refl ∙ ap bytesOf (sym pieces-met) ∙ sym (rows-joined (piecesOf (metIn r s)));
+        within = subst (λ (ps : List Piece). Within (r .width) (rowsIn ps)) (sym pieces-met) (held-rows-within-width (r .width) (document r s));
+      }
 
 -- ---- two runs over equal trees
 

@@ -11,7 +11,8 @@ use Rattle.layout.specs.Layout.{Piece, pieces}
 use Rattle.layout.specs.Listing.{bytesOf}
 use Rattle.layout.specs.Paint.{paint}
 use Rattle.layout.specs.Call.{countsOf, docOf}
-use Rattle.third_property.specs.Claims.{restored, inOrder, places, Exact, brokenOf, brokenIn, rowsIn, Within}
+use Rattle.third_property.specs.Claims.{restored, inOrder, rowsIn, joined, Within}
+use Rattle.third_property.specs.Places.{Met, met, piecesOf, placesIn, failed, breakPlaces}
 use Rattle.layout.specs.declared.Counts.{Counts}
 use Rattle.pool_check.specs.declared.Verdict.the-variants.{Accepted}
 use Rattle.pool.specs.Tables.{Pool, E, D}
@@ -177,16 +178,20 @@ pub record PutBack {k : Print} (r : Run k) (s : Succeeded r) (d : Doc) : Type 0 
   pub listed : listing r s ≡ bytesOf (pieces (r .width) d)
   pub restores : restored (pieces (r .width) d) ≡ inOrder d
 
--- "a break place starts a row exactly when every group around it failed 01's fit test"
+-- what layout meets in the document that a run which succeeds leaves, row by row
+abbrev pub metIn : {k : Print} (r : Run k) → Succeeded r → List Met
+metIn r s = met (r .width) (document r s)
+
+-- "a break place starts a row exactly when every group around it failed 01's fit test": of the rows that the run leaves
 pub record StartsRows {k : Print} (r : Run k) (s : Succeeded r) : Type 0 where
-  pub listed : listing r s ≡ bytesOf (pieces (r .width) (document r s))
-  pub breaks : brokenOf (places (r .width) (document r s)) ≡ brokenIn (pieces (r .width) (document r s))
-  pub exactly : Exact (places (r .width) (document r s))
+  pub pieces-are : piecesOf (metIn r s) ≡ pieces (r .width) (document r s)
+  pub listed : listing r s ≡ bytesOf (piecesOf (metIn r s))
+  pub exactly : placesIn (metIn r s) ≡ breakPlaces (failed (metIn r s)) (r .left .rows) (s .counts .rows)
 
 -- "every row holding an unbroken break place is at most the width in bytes"
 pub record HoldsWidth {k : Print} (r : Run k) (s : Succeeded r) : Type 0 where
-  pub listed : listing r s ≡ bytesOf (pieces (r .width) (document r s))
-  pub within : Within (r .width) (rowsIn (pieces (r .width) (document r s)))
+  pub listed : listing r s ≡ joined (rowsIn (piecesOf (metIn r s)))
+  pub within : Within (r .width) (rowsIn (piecesOf (metIn r s)))
 
 -- ---- the whole
 
