@@ -1,31 +1,26 @@
 // The parts of the areas that are handed out.
+use crate::Part;
 use crate::is_accepted;
 use basics::bools::both;
+use basics::numbers::lesser;
 use document::check::counts_ok;
 use document::check::find_fault;
 use document::measures::word_at;
-use pool::strings::string_at;
+use pool::kinds::LENGTH;
+use pool::kinds::OFFSET;
+use pool::tables::string_word;
 use pool::tables::tables_of;
 ghost use mathlib.Core.Path.{_≡_};
-ghost use Prim.Native.Nat.{_<_, min};
-ghost use lib.ListN.{take, drop};
 ghost use Rattle.basics.specs.Lent.{was};
-ghost use Rattle.lister.specs.Handing.{hasText, textPart, hasString, stringPart};
+ghost use Rattle.lister.specs.Handing.{hasText, textSpan, hasString, stringSpan, partOf};
 ghost use Rattle.lister.specs.Frames.{given};
 
-fn lesser(a: usize, b: usize) -> usize
-    ensures { λ v. ⌜ v ≡ min a b ⌝ }
+// The bytes of a part; what lies past the end is left out.
+pub fn part(s: &[u8], p: Part) -> &[u8]
+    ensures { λ r. ⌜ now r ≡ partOf (was s) p ⌝ }
 {
-    if a <= b { a } else { b }
-}
-
-// So many bytes from an offset on; what lies past the end is left out.
-fn part(s: &[u8], offset: usize, size: usize) -> &[u8]
-    requires { ⌜ (offset < 4294967296) × (size < 4294967296) ⌝ }
-    ensures { λ r. ⌜ now r ≡ take size (drop offset (was s)) ⌝ }
-{
-    let from = lesser(offset, s.len());
-    let to = lesser(offset + size, s.len());
+    let from = lesser(p.offset, s.len());
+    let to = from + lesser(p.size, s.len() - from);
     &s[from..to]
 }
 
@@ -42,13 +37,16 @@ fn has_text(rows: &[u32], count: usize, text: &[u8], total: usize, r: usize) -> 
     )
 }
 
-pub fn text_part<'a>(rows: &[u32], count: usize, text: &'a [u8], total: usize, r: usize) -> &'a [u8]
-    ensures { λ s. ⌜ now s ≡ textPart (was rows) count (was text) total r ⌝ }
+// Where its bytes lie in `text`.
+pub fn text_span(rows: &[u32], count: usize, text: &[u8], total: usize, r: usize) -> Part
+    ensures { λ v. ⌜ v ≡ textSpan (was rows) count (was text) total r ⌝ }
 {
     if !has_text(rows, count, text, total, r) {
-        return part(text, 0, 0);
+        return Part { offset: 0, size: 0 };
     }
-    part(text, word_at(rows, r, 1), word_at(rows, r, 2))
+    let offset = word_at(rows, r, 1);
+    let size = word_at(rows, r, 2);
+    Part { offset, size }
 }
 
 // Whether the pool is accepted and has the string row r.
@@ -59,11 +57,14 @@ fn has_string(bytes: &[u8], words: &[u32], r: usize) -> bool
     both(is_accepted(pool_check::check(bytes, words)), r < t.strings)
 }
 
-pub fn string_part<'a>(bytes: &'a [u8], words: &[u32], r: usize) -> &'a [u8]
-    ensures { λ s. ⌜ now s ≡ stringPart (given bytes words) r ⌝ }
+// Where its bytes lie in `bytes`.
+pub fn string_span(bytes: &[u8], words: &[u32], r: usize) -> Part
+    ensures { λ v. ⌜ v ≡ stringSpan (given bytes words) r ⌝ }
 {
     if !has_string(bytes, words, r) {
-        return part(bytes, 0, 0);
+        return Part { offset: 0, size: 0 };
     }
-    string_at(bytes, words, r)
+    let offset = string_word(words, r, OFFSET);
+    let size = string_word(words, r, LENGTH);
+    Part { offset, size }
 }

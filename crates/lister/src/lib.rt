@@ -2,8 +2,9 @@
 use basics::bools::both;
 use checked::print_checked_declar;
 use checked::print_checked_expr;
-use handing::string_part;
-use handing::text_part;
+use handing::part;
+use handing::string_span;
+use handing::text_span;
 use layout::Counts;
 use layout::Laid;
 use pool::tables::tables_of;
@@ -16,7 +17,7 @@ ghost use Rattle.layout.specs.Frames.{Lists};
 ghost use Rattle.lister.specs.declared.Answer.{Answer};
 ghost use Rattle.lister.specs.Source.{judged, isAccepted};
 ghost use Rattle.lister.specs.Prints.{sizesOk, printExpr, printDeclar};
-ghost use Rattle.lister.specs.Handing.{handOut};
+ghost use Rattle.lister.specs.Handing.{spanOf, handOut};
 ghost use Rattle.lister.specs.Frames.{given, Prints};
 ghost use Rattle.lister.specs.Stages.{mayPrint};
 
@@ -48,6 +49,12 @@ pub enum Answer {
 pub enum Handed {
     Text { row: usize },
     String { row: usize },
+}
+
+// Where a part of an area lies: so many bytes from an offset on.
+pub struct Part {
+    pub offset: usize,
+    pub size: usize,
 }
 
 // "indent over 64 or width over 65,535": the contrary.
@@ -181,8 +188,26 @@ pub fn layout(
     layout::layout(rows, count, text, total, width, listing)
 }
 
-// Hands out the text of a document's row or a pool's string: a part of `text` or of `bytes`, an empty one unless document or pool is
+// Where the text of a document's row lies in `text`, or a pool's string in `bytes`: nothing, at offset 0, unless document or pool is
 // accepted and has that row.
+pub fn hand_out_span(
+    bytes: &[u8],
+    words: &[u32],
+    rows: &[u32],
+    count: usize,
+    text: &[u8],
+    total: usize,
+    what: Handed,
+) -> Part
+    ensures { λ v. ⌜ v ≡ spanOf (given bytes words) (was rows) count (was text) total what ⌝ }
+{
+    match what {
+        Handed::Text { row } => text_span(rows, count, text, total, row),
+        Handed::String { row } => string_span(bytes, words, row),
+    }
+}
+
+// Hands out that part of `text` or of `bytes`.
 pub fn hand_out<'a>(
     bytes: &'a [u8],
     words: &[u32],
@@ -195,7 +220,7 @@ pub fn hand_out<'a>(
     ensures { λ s. ⌜ now s ≡ handOut (given bytes words) (was rows) count (was text) total what ⌝ }
 {
     match what {
-        Handed::Text { row } => text_part(rows, count, text, total, row),
-        Handed::String { row } => string_part(bytes, words, row),
+        Handed::Text { row } => part(text, text_span(rows, count, text, total, row)),
+        Handed::String { row } => part(bytes, string_span(bytes, words, row)),
     }
 }

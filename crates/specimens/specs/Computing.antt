@@ -28,7 +28,7 @@ use Rattle.declarations.specs.Declars.{word, info, canLeave, taken, defRest, ma
 use Rattle.lister.specs.Answers.{number as Answers·number, place as Answers·place, stopAnswer, ofLaid}
 use Rattle.lister.specs.Source.{isAccepted}
 use Rattle.lister.specs.Prints.{untouched as Prints·untouched, cleared, filled, listed as Prints·listed, afterWalk, printDoc, checked, printExpr, printDeclar}
-use Rattle.lister.specs.Handing.{hasText, textPart, hasString, stringPart, handOut}
+use Rattle.lister.specs.Handing.{hasText, textSpan, hasString, stringSpan, spanOf, areaOf, handOut}
 
 unfoldable pub computing : Unit {0}
 unfolding utf8From utf8 pointsFrom points isStart isRest allRest letterlike sameBytes plain encode bytes stringWord nameWord levelWord listWord listEntry exprWord declarWord
@@ -39,5 +39,6 @@ unfolding utf8From utf8 pointsFrom points isStart isRest allRest letterlike same
     under tileFrom tile digitsTo digits Docs·number dotted nameText isAnonymous hasOdd nameDoc isHygienic plus maxPar succsPar sortDoc levelsDoc leading following runsTo runs
     binders chainBody pushed inForce isArrow isNamedPi goesAlong sameGroup opening closing binderName groupDoc telescope arrowPar forallPar funPar runPar runsPar bindersPar varDoc
     appHead appArgs appPar chainPar letPar Exprs·exprTo exprPar exprDoc word info canLeave taken defRest mainDef axiomRest mainAxiom declarDoc Answers·number Answers·place
-    isAccepted stopAnswer ofLaid Prints·untouched cleared filled Prints·listed afterWalk printDoc checked printExpr printDeclar hasText textPart hasString stringPart handOut
+    isAccepted stopAnswer ofLaid Prints·untouched cleared filled Prints·listed afterWalk printDoc checked printExpr printDeclar hasText textSpan hasString stringSpan spanOf areaOf
+    handOut
 computing = tt

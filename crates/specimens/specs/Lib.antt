@@ -1,3 +1,4 @@
 pub mod Computing
 pub mod Specimens
 pub mod Refusals
+pub mod Handing
