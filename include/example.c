@@ -1,4 +1,4 @@
-/* Prints one declaration of a pool typed by hand, `axiom k : @C`, and shows what a refusal looks like. */
+/* Prints one declaration of a pool typed by hand, `axiom k : @C`, hands out the document's first text, and shows what a refusal looks like. */
 #include "tilusorgu.h"
 #include <inttypes.h>
 #include <stdio.h>
@@ -27,6 +27,9 @@ static int print_declar(uint32_t root) {
         return 1;
     }
     printf("%.*s\n", (int)out[4], (const char *)listing);
+    tilusorgu_hand_out(bytes, sizeof bytes, words, sizeof words / sizeof *words, rows, sizeof rows / sizeof *rows, out[2], text, sizeof text,
+                       out[3], TILUSORGU_PART_TEXT, 0, out, TILUSORGU_OUT);
+    printf("row 0 is the text \"%.*s\"\n", (int)out[3], (const char *)text + out[2]);
     return 0;
 }
 

@@ -21,6 +21,8 @@
  *     out[6] longest row     in bytes, indentation included
  *     out[7] fit tests       groups that were tested for fitting into their row
  *
+ * tilusorgu_hand_out puts an offset and a length into out[2] and out[3], and 0 into the others.
+ *
  * An `out` of more than eight has only its first eight written. With an `out` shorter than eight nothing is written into it,
  * and the call does and returns the same.
  */
@@ -109,6 +111,24 @@ uint32_t tilusorgu_print_declar(const uint8_t *bytes, size_t byte_count, const u
  */
 uint32_t tilusorgu_layout(const uint32_t *rows, size_t row_words, uint64_t row_count, const uint8_t *text, size_t text_bytes,
                           uint64_t text_count, uint32_t width, uint8_t *listing, size_t listing_bytes, uint64_t *out, size_t out_count);
+
+/* What tilusorgu_hand_out hands out. */
+enum tilusorgu_kind {
+    TILUSORGU_PART_TEXT = 0,  /* the text of a document's row: a part of `text` */
+    TILUSORGU_PART_STRING = 1 /* the string of a pool's string row: a part of `bytes` */
+};
+
+/*
+ * Hands out the text of a document's row, or a pool's string: the out[3] bytes of `text` or of `bytes` from the offset out[2] on. They lie inside
+ * that slice. Given: the pool, a document as tilusorgu_layout is given it, a kind (above) and the row. Lent: nothing.
+ *
+ * Returns 0 always. The part is empty, offset and length 0, unless the document is accepted (not refused 9) and the row is one of its texts, or
+ * the pool is accepted and has that string row; for any other kind it is empty too. For a text the pool is not looked at, nor for a string
+ * the document: those slices may be of length 0.
+ */
+uint32_t tilusorgu_hand_out(const uint8_t *bytes, size_t byte_count, const uint32_t *words, size_t word_count, const uint32_t *rows,
+                            size_t row_words, uint64_t row_count, const uint8_t *text, size_t text_bytes, uint64_t text_count, uint32_t kind,
+                            uint32_t row, uint64_t *out, size_t out_count);
 
 #ifdef __cplusplus
 }

@@ -1,15 +1,16 @@
 -- What a call returns and leaves in its areas, from what the calls inside it ensure.
 -- Assumes nothing.
 use mathlib.Core.Path.{_≡_, ap, _∙_}
-use mathlib.Core.List.{List}
+use mathlib.Core.List.{List, [], _∷_}
 use Prim.Native.Nat.{ℕ}
 use Rattle.pool_check.specs.declared.Verdict.{Verdict}
 use Rattle.layout.specs.declared.Laid.{Laid}
 use Rattle.layout.specs.Call.{Outcome}
 use Rattle.lister_c.specs.declared.Report.{Report}
 use Rattle.lister.specs.declared.Answer.{Answer}
+use Rattle.lister.specs.declared.Part.{Part}
 use Rattle.lister.specs.Prints as prints
-use Rattle.lister_c.specs.Reports.{Checked, LaidOut, Printed, ofVerdict, ofLaid, ofAnswer, put, checked, laid, printed}
+use Rattle.lister_c.specs.Reports.{Checked, LaidOut, Printed, ofVerdict, ofLaid, ofAnswer, put, putWords, checked, laid, printed, handed}
 
 abbrev pub answer : ℕ → List ℕ → Checked
 answer number out = record { number = number; out = out }
@@ -58,3 +59,11 @@ unfolding printed ofAnswer
 print-answer {v} {areas} {o} {r} out outcome report filled =
     ap (printAnswers areas (r .number)) filled
     ∙ (ap (λ (x : Report). printAnswers areas (x .number) (put out x)) report ∙ ap (λ (x : prints.Outcome). printed x out) outcome)
+
+pub hand-out-answer :
+    {p q : Part} {last : List ℕ} (out : List ℕ)
+    → p ≡ q
+    → last ≡ putWords out (0 ∷ 0 ∷ p .offset ∷ p .size ∷ 0 ∷ 0 ∷ 0 ∷ 0 ∷ [])
+    → answer 0 last ≡ handed q out
+unfolding handed
+hand-out-answer {p} {q} out part filled = ap (answer 0) filled ∙ ap (λ (x : Part). handed x out) part

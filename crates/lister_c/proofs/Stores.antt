@@ -1,4 +1,4 @@
--- Eight stores put a report over the first eight words.
+-- Eight stores put eight words over the first eight.
 -- Assumes nothing.
 use mathlib.Core.Path.{_≡_, refl}
 use mathlib.Core.List.{List, [], _∷_, _++_}
@@ -6,31 +6,31 @@ use Prim.Native.Nat.{ℕ, _<_, _≤_}
 use native.Mathlib.Omega.{arith}
 use lib.ListN.{length, set, drop}
 use borrow.Author.Tests.{lt-ltb, le-ltb}
-use Rattle.layout.specs.declared.Counts.{Counts}
-use Rattle.lister_c.specs.declared.Report.{Report}
-use Rattle.lister_c.specs.Reports.{put, eight}
+use Rattle.lister_c.specs.Reports.{putWords}
 
-pub untouched : (out : List ℕ) (r : Report) → length out < 8 → out ≡ put out r
-unfolding put
-untouched out r short = simp (lt-ltb _ _ short)
+pub untouched : (out words : List ℕ) → length out < 8 → out ≡ putWords out words
+unfolding putWords
+untouched out words short = simp (lt-ltb _ _ short)
 
--- the stores as the code makes them
-abbrev pub storesOf : List ℕ → Report → List ℕ
-storesOf out r =
-    let c : Counts = r .counts in
-    set (set (set (set (set (set (set (set out 0 (r .number)) 1 (r .place)) 2 (c .rows)) 3 (c .text)) 4 (c .length)) 5 (c .lines)) 6 (c .longest)) 7 (c .tests)
+module _ (w0 w1 w2 w3 w4 w5 w6 w7 : ℕ) where
+  abbrev pub wordsOf : List ℕ
+  wordsOf = w0 ∷ w1 ∷ w2 ∷ w3 ∷ w4 ∷ w5 ∷ w6 ∷ w7 ∷ []
 
-stores : (out : List ℕ) (r : Report) → 8 ≤ length out → storesOf out r ≡ eight r ++ drop 8 out
-stores [] r le = absurd (omega arith)
-stores (a ∷ []) r le = absurd (omega arith)
-stores (a ∷ b ∷ []) r le = absurd (omega arith)
-stores (a ∷ b ∷ c ∷ []) r le = absurd (omega arith)
-stores (a ∷ b ∷ c ∷ d ∷ []) r le = absurd (omega arith)
-stores (a ∷ b ∷ c ∷ d ∷ e ∷ []) r le = absurd (omega arith)
-stores (a ∷ b ∷ c ∷ d ∷ e ∷ f ∷ []) r le = absurd (omega arith)
-stores (a ∷ b ∷ c ∷ d ∷ e ∷ f ∷ g ∷ []) r le = absurd (omega arith)
-stores (a ∷ b ∷ c ∷ d ∷ e ∷ f ∷ g ∷ h ∷ out) r le = refl
+  -- the stores as the code makes them
+  abbrev pub storesOf : List ℕ → List ℕ
+  storesOf out = set (set (set (set (set (set (set (set out 0 w0) 1 w1) 2 w2) 3 w3) 4 w4) 5 w5) 6 w6) 7 w7
 
-pub stored : (out : List ℕ) (r : Report) → 8 ≤ length out → storesOf out r ≡ put out r
-unfolding put
-stored out r enough = simp (le-ltb _ _ enough) (stores out r enough)
+  stores : (out : List ℕ) → 8 ≤ length out → storesOf out ≡ wordsOf ++ drop 8 out
+  stores [] le = absurd (omega arith)
+  stores (a ∷ []) le = absurd (omega arith)
+  stores (a ∷ b ∷ []) le = absurd (omega arith)
+  stores (a ∷ b ∷ c ∷ []) le = absurd (omega arith)
+  stores (a ∷ b ∷ c ∷ d ∷ []) le = absurd (omega arith)
+  stores (a ∷ b ∷ c ∷ d ∷ e ∷ []) le = absurd (omega arith)
+  stores (a ∷ b ∷ c ∷ d ∷ e ∷ f ∷ []) le = absurd (omega arith)
+  stores (a ∷ b ∷ c ∷ d ∷ e ∷ f ∷ g ∷ []) le = absurd (omega arith)
+  stores (a ∷ b ∷ c ∷ d ∷ e ∷ f ∷ g ∷ h ∷ out) le = refl
+
+  pub stored : (out : List ℕ) → 8 ≤ length out → storesOf out ≡ putWords out wordsOf
+  unfolding putWords
+  stored out enough = simp (le-ltb _ _ enough) (stores out enough)

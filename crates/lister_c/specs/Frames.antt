@@ -6,9 +6,10 @@ use Prim.Native.Nat.{ℕ}
 use Rattle.pool_check.specs.declared.Verdict.{Verdict}
 use Rattle.basics.specs.Lent.{Area, was, left}
 use Rattle.layout.specs.Call as call
+use Rattle.lister.specs.declared.Part.{Part}
 use Rattle.lister.specs.Prints as prints
 use Rattle.lister.specs.Frames.{lentAreas, leftAreas}
-use Rattle.lister_c.specs.Reports.{checked, laid, printed}
+use Rattle.lister_c.specs.Reports.{checked, laid, printed, handed}
 
 abbrev pub Checks : Area → ℕ → Verdict → Type 0
 Checks out v verdict = record { number = v; out = left out } ≡ checked verdict (was out)
@@ -20,3 +21,6 @@ abbrev pub Prints : Area → Area → Area → Area → ℕ → (prints.Areas �
 Prints rows text listing out v defined =
     record { number = v; areas = leftAreas rows text listing; out = left out }
     ≡ printed (defined (lentAreas rows text listing)) (was out)
+
+abbrev pub HandsOut : Area → ℕ → Part → Type 0
+HandsOut out v p = record { number = v; out = left out } ≡ handed p (was out)

@@ -3,7 +3,7 @@ use Prim.Native.Nat.{ℕ}
 use mathlib.Core.Bool.{cond}
 use mathlib.Core.List.{List, [], _∷_, _++_}
 use lib.ListN.{length, drop}
-use lib.Dec.{ltb}
+use lib.Dec.{ltb, eqb}
 use Rattle.pool_check.specs.declared.Verdict.{Verdict}
 use Rattle.pool_check.specs.Check as check
 use Rattle.layout.specs.declared.Counts.{Counts}
@@ -15,6 +15,10 @@ use Rattle.lister.specs.declared.Answer.{Answer}
 use Rattle.lister.specs.declared.Answer.the-variants as answers
 use Rattle.lister.specs.Answers as numbers
 use Rattle.lister.specs.Prints as prints
+use Rattle.lister.specs.Source.{Source}
+use Rattle.lister.specs.Handing.{spanOf, empty}
+use Rattle.lister.specs.declared.Part.{Part}
+use Rattle.lister.specs.declared.Handed.the-variants.{Text, String}
 use Rattle.lister_c.specs.declared.Report.{Report}
 
 -- what does not apply is 0
@@ -65,11 +69,15 @@ eight r =
     let c : Counts = r .counts in
     r .number ∷ r .place ∷ c .rows ∷ c .text ∷ c .length ∷ c .lines ∷ c .longest ∷ c .tests ∷ []
 
--- a report put over the first eight words; fewer than eight stay as they are
-unfoldable pub put : List ℕ → Report → List ℕ
-put out r = cond (ltb (length out) 8) out (eight r ++ drop 8 out)
+-- eight words put over the first eight; fewer than eight stay as they are
+unfoldable pub putWords : List ℕ → List ℕ → List ℕ
+putWords out words = cond (ltb (length out) 8) out (words ++ drop 8 out)
 
--- what `tilusorgu_check` returns, and `out` afterwards
+-- a report put over the first eight words
+abbrev pub put : List ℕ → Report → List ℕ
+put out r = putWords out (eight r)
+
+-- what `tilusorgu_check` and `tilusorgu_hand_out` return, and `out` afterwards
 pub record Checked : Type 0 where
   pub number : ℕ
   pub out : List ℕ
@@ -96,3 +104,13 @@ pub record Printed : Type 0 where
 unfoldable pub printed : prints.Outcome → List ℕ → Printed
 printed o out =
     record { number = numbers.number (o .answer); areas = o .areas; out = put out (ofAnswer (o .answer)) }
+
+-- where what `tilusorgu_hand_out` hands out lies: kind 0 is the text of a document's row, 1 a pool's string; any other is an empty part
+unfoldable pub kindSpan : Source → List ℕ → ℕ → List ℕ → ℕ → ℕ → ℕ → Part
+kindSpan source rows count text total kind row =
+    cond (eqb kind 0) (spanOf source rows count text total (Text row))
+    (cond (eqb kind 1) (spanOf source rows count text total (String row)) empty)
+
+-- no number refuses; the part's offset and length
+unfoldable pub handed : Part → List ℕ → Checked
+handed p out = record { number = 0; out = putWords out (0 ∷ 0 ∷ p .offset ∷ p .size ∷ 0 ∷ 0 ∷ 0 ∷ 0 ∷ []) }

@@ -3,15 +3,18 @@
 use layout::Counts;
 use layout::Laid;
 use lister::Answer;
+use lister::Handed;
+use lister::Part;
 use pool_check::Verdict;
+ghost use mathlib.Core.List.{[], _∷_};
 ghost use mathlib.Core.Path.{_≡_};
 ghost use Rattle.layout.specs.Call.{outcome};
 ghost use Rattle.basics.specs.Lent.{was, left};
 ghost use Rattle.lister.specs.Source.{judged};
 ghost use Rattle.lister.specs.Prints.{printExpr, printDeclar};
 ghost use Rattle.lister.specs.Frames.{given};
-ghost use Rattle.lister_c.specs.Reports.{put, ofVerdict, ofLaid, ofAnswer};
-ghost use Rattle.lister_c.specs.Frames.{Checks, LaysOut, Prints};
+ghost use Rattle.lister_c.specs.Reports.{put, putWords, ofVerdict, ofLaid, ofAnswer, kindSpan};
+ghost use Rattle.lister_c.specs.Frames.{Checks, LaysOut, Prints, HandsOut};
 
 // What a call reports, in the order of `out`; what does not apply is 0.
 pub struct Report {
@@ -89,22 +92,49 @@ fn of_answer(v: Answer) -> Report
     }
 }
 
-// Puts a report over the first eight words.
-fn fill(out: &mut [u64], r: Report)
-    ensures { λ _. ⌜ left out ≡ put (was out) r ⌝ }
+// Puts eight words over the first eight.
+fn put_words(
+    out: &mut [u64],
+    w0: u64,
+    w1: u64,
+    w2: u64,
+    w3: u64,
+    w4: u64,
+    w5: u64,
+    w6: u64,
+    w7: u64,
+)
+    ensures { λ _. ⌜ left out ≡ putWords (was out) (w0 ∷ w1 ∷ w2 ∷ w3 ∷ w4 ∷ w5 ∷ w6 ∷ w7 ∷ []) ⌝ }
 {
     if out.len() < 8 {
         return;
     }
+    out[0] = w0;
+    out[1] = w1;
+    out[2] = w2;
+    out[3] = w3;
+    out[4] = w4;
+    out[5] = w5;
+    out[6] = w6;
+    out[7] = w7;
+}
+
+// Puts a report over the first eight words.
+fn fill(out: &mut [u64], r: Report)
+    ensures { λ _. ⌜ left out ≡ put (was out) r ⌝ }
+{
     let c = r.counts;
-    out[0] = r.number as u64;
-    out[1] = r.place as u64;
-    out[2] = c.rows as u64;
-    out[3] = c.text as u64;
-    out[4] = c.length as u64;
-    out[5] = c.lines as u64;
-    out[6] = c.longest as u64;
-    out[7] = c.tests as u64;
+    put_words(
+        out,
+        r.number as u64,
+        r.place as u64,
+        c.rows as u64,
+        c.text as u64,
+        c.length as u64,
+        c.lines as u64,
+        c.longest as u64,
+        c.tests as u64,
+    );
 }
 
 // Whether a pool is accepted.
@@ -198,4 +228,63 @@ pub extern "C" fn tilusorgu_print_declar(
     ));
     fill(out, report);
     report.number
+}
+
+// Where what a kind hands out lies: 0 the text of a document's row, 1 a pool's string, any other nothing.
+fn kind_span(
+    bytes: &[u8],
+    words: &[u32],
+    rows: &[u32],
+    count: usize,
+    text: &[u8],
+    total: usize,
+    kind: u32,
+    row: usize,
+) -> Part
+    ensures { λ v. ⌜ v ≡ kindSpan (given bytes words) (was rows) count (was text) total kind row ⌝ }
+{
+    if kind == 0 {
+        return lister::hand_out_span(bytes, words, rows, count, text, total, Handed::Text { row });
+    }
+    if kind == 1 {
+        return lister::hand_out_span(
+            bytes,
+            words,
+            rows,
+            count,
+            text,
+            total,
+            Handed::String { row },
+        );
+    }
+    Part { offset: 0, size: 0 }
+}
+
+// Hands out the text of a document's row, or a pool's string: where its part of `text` or of `bytes` lies.
+#[no_mangle]
+pub extern "C" fn tilusorgu_hand_out(
+    bytes: &[u8],
+    words: &[u32],
+    rows: &[u32],
+    count: u64,
+    text: &[u8],
+    total: u64,
+    kind: u32,
+    row: u32,
+    out: &mut [u64],
+) -> u32
+    ensures { λ v. ⌜ HandsOut out v (kindSpan (given bytes words) (was rows) count (was text) total kind row) ⌝ }
+{
+    let p = kind_span(
+        bytes,
+        words,
+        rows,
+        count as usize,
+        text,
+        total as usize,
+        kind,
+        row as usize,
+    );
+    put_words(out, 0, 0, p.offset as u64, p.size as u64, 0, 0, 0, 0);
+    0
 }
