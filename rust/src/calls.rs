@@ -1,7 +1,8 @@
-//! The four calls over slices. What they answer and what they leave in the lent areas: include/tilusorgu.h.
+//! The calls over slices. What they answer and what they leave in the lent areas: include/tilusorgu.h.
 use crate::raw;
 use crate::refusal::Refusal;
 use crate::stack::with_stack;
+use std::ops::Range;
 
 /// Words of a document row.
 pub const ROW_WORDS: usize = 7;
@@ -45,8 +46,8 @@ pub struct Lent<'a> {
     pub listing: &'a mut [u8],
 }
 
-/// A document that is given to [`layout`]: the first rows and bytes of two slices.
-#[derive(Clone, Copy, Debug)]
+/// A document that is given to [`layout`] or [`text_part`]: the first rows and bytes of two slices.
+#[derive(Clone, Copy, Debug, Default)]
 pub struct Given<'a> {
     pub rows: &'a [u32],
     pub row_count: u64,
@@ -137,4 +138,40 @@ pub fn layout(given: Given<'_>, width: u32, listing: &mut [u8]) -> Result<Counts
         )
     });
     answer(number, &out)
+}
+
+/// Where the text (kind 0) or the string (kind 1) of this row lies. The library's proof has it inside its slice.
+fn handed_out(bytes: &[u8], words: &[u32], given: Given<'_>, kind: u32, row: u32) -> Range<usize> {
+    let mut out = [0; 8];
+    // Sound: as above.
+    with_stack(|| unsafe {
+        raw::tilusorgu_hand_out(
+            bytes.as_ptr(),
+            bytes.len(),
+            words.as_ptr(),
+            words.len(),
+            given.rows.as_ptr(),
+            given.rows.len(),
+            given.row_count,
+            given.text.as_ptr(),
+            given.text.len(),
+            given.text_count,
+            kind,
+            row,
+            out.as_mut_ptr(),
+            8,
+        )
+    });
+    let (offset, length) = (out[2] as usize, out[3] as usize);
+    offset..offset + length
+}
+
+/// Hands out the text of a document's row: empty unless the document is accepted and the row is one of its texts.
+pub fn text_part(given: Given<'_>, row: u32) -> &[u8] {
+    &given.text[handed_out(&[], &[], given, 0, row)]
+}
+
+/// Hands out a pool's string: empty unless the pool is accepted and has that string row.
+pub fn string_part<'a>(bytes: &'a [u8], words: &[u32], row: u32) -> &'a [u8] {
+    &bytes[handed_out(bytes, words, Given::default(), 1, row)]
 }

@@ -49,4 +49,20 @@ extern "C" {
         out: *mut u64,
         out_count: usize,
     ) -> u32;
+    pub fn tilusorgu_hand_out(
+        bytes: *const u8,
+        byte_count: usize,
+        words: *const u32,
+        word_count: usize,
+        rows: *const u32,
+        row_words: usize,
+        row_count: u64,
+        text: *const u8,
+        text_bytes: usize,
+        text_count: u64,
+        kind: u32,
+        row: u32,
+        out: *mut u64,
+        out_count: usize,
+    ) -> u32;
 }
