@@ -13,10 +13,13 @@ HERE = os.path.dirname(os.path.abspath(__file__))
 TOP = os.path.dirname(HERE)
 FILL = 0xA5
 CHECK = 3
+TEXT, STRING = 4, 5  # to hand out
 # `fault` says in words why there is no answer, or what the program found wrong with it; else it is None.
 Reply = namedtuple("Reply", "number place listing rows text counts fault")
-# One call: of a print the lengths of its areas (rows in words); of a layout the counts of rows and text bytes, and the listing's length.
+# One call: of a print the lengths of its areas (rows in words); of a layout the counts of rows and text bytes, and the listing's length; of a text to hand out these
+# counts, `root` being the row.
 Call = namedtuple("Call", "mode area words root indent width lengths")
+# `counts` of what is handed out are its bytes.
 Called = namedtuple("Called", "number place counts areas fault")
 
 
@@ -117,6 +120,10 @@ def decode_call(data, at, c):
     if at + text + listing > len(data):
         raise struct.error
     areas = model.Areas(words, data[at:at + text], data[at + text:at + text + listing])
+    if c.mode in (TEXT, STRING):
+        offset, length = out[2:4]
+        inside = offset + length <= len(c.area) and not any(out[4:])
+        return Called(out[0], out[1], bytes(c.area[offset:offset + length]), areas, None if inside else "no part of its area: %r" % (out,)), at
     return Called(out[0], out[1], out[2:] if out[0] == 0 and c.mode != CHECK else None, areas, None), at + text + listing
 
 
@@ -131,6 +138,9 @@ def by_model(c):
     if c.mode == CHECK:
         number, place = model.check(c.area, c.words)
         return Called(number, place, None, model.Areas([], b"", b""), None)
+    if c.mode in (TEXT, STRING):
+        handed = model.hand_out_text(c.words, c.lengths[0], c.area, c.lengths[1], c.root) if c.mode == TEXT else model.hand_out_string(model.Pool(c.area, c.words), c.root)
+        return Called(0, 0, bytes(handed), model.Areas([], b"", b""), None)
     rows, text, listing = area_lengths(c)
     lent = model.Areas([FILL * 0x01010101] * rows, bytearray([FILL]) * text, bytearray([FILL]) * listing)
     if c.mode == 2:

@@ -220,6 +220,17 @@ def prints_of_refused():
                 yield "print, mode %d: %s" % (mode, title), call._replace(mode=mode, indent=2, width=80, lengths=(15, 5, 9)), expected
 
 
+def handed_out():
+    """Of each pool that is checked and each document that is laid out, the first rows and some that are not there: nothing is refused."""
+    for title, call, _ in cases():
+        if call.mode == product.CHECK:
+            for row in (0, 1, 2, 65535, 65536):
+                yield "hand out string %d: %s" % (row, title), call._replace(mode=product.STRING, root=row), (0, 0)
+        elif call.mode == 2:
+            for row in (*range(9), 16384, 1 << 31):
+                yield "hand out text %d: %s" % (row, title), call._replace(mode=product.TEXT, root=row), (0, 0)
+
+
 def areas_hold(call, answer):
     """Whether the areas are as 01 says of the number; a success and 22 against a print in long areas."""
     if call.mode >= 2:
@@ -243,7 +254,7 @@ def judged(program=None):
     for (title, call, expected), answer in zip(chosen, by_model):
         yield answer[:2] == expected and areas_hold(call, answer), "by the model: %s: %r, expected %r" % (title, answer[:3], expected)
     if program:
-        more = list(prints_of_refused())
+        more = list(prints_of_refused()) + list(handed_out())
         chosen, by_model = chosen + more, by_model + [product.by_model(call) for _, call, _ in more]
         for (title, call, expected), known, answer in zip(chosen, by_model, product.call(program, [call for _, call, _ in chosen])):
             what = "by the product: %s: %r, expected %r" % (title, answer.fault or answer[:3], expected)

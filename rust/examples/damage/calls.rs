@@ -53,3 +53,26 @@ pub fn layout(given: Given<'_>, width: u32, listing: &mut Guarded<u8>, out: &mut
         )
     }
 }
+
+/// Of a document's text (kind 0) or a pool's string (kind 1).
+pub fn hand_out(pool: &Pool, given: Given<'_>, (kind, row): (u32, u32), out: &mut Guarded<u64>) -> u32 {
+    let out = out.area();
+    unsafe {
+        raw::tilusorgu_hand_out(
+            pool.bytes.as_ptr(),
+            pool.bytes.len(),
+            pool.words.as_ptr(),
+            pool.words.len(),
+            given.rows.as_ptr(),
+            given.rows.len(),
+            given.row_count,
+            given.text.as_ptr(),
+            given.text.len(),
+            given.text_count,
+            kind,
+            row,
+            out.as_mut_ptr(),
+            out.len(),
+        )
+    }
+}

@@ -100,3 +100,12 @@ pub fn full_areas(answer: (u32, u64), areas: &Areas) -> Result<(), String> {
         _ => Ok(()),
     }
 }
+
+/// What was handed out: the part that the row's offset and length name, inside its area, or nothing where there is no such row.
+pub fn handed_out(number: u32, answer: &Guarded<u64>, row: Option<[u32; 2]>, area: &[u8]) -> Result<(), String> {
+    out(number, answer)?;
+    need(number == 0, "handing out is never refused")?;
+    let [offset, length] = row.unwrap_or_default().map(u64::from);
+    need(answer.seen().len() < 8 || answer.seen()[2..8] == [offset, length, 0, 0, 0, 0], "another part was handed out")?;
+    need(offset + length <= area.len() as u64, "a part outside its area was handed out")
+}

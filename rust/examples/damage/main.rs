@@ -1,4 +1,4 @@
-//! Damaged inputs: pools and documents of the recorded corpus and of the samples are changed at random, and all four C calls are made with areas between guards.
+//! Damaged inputs: pools and documents of the recorded corpus and of the samples are changed at random, and all C calls are made with areas between guards.
 //!
 //!     cargo run --release --example damage -- COUNT SEED          so many inputs
 //!     cargo run --release --example damage -- COUNT SEED --at I   input I alone, in this process

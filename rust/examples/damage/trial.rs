@@ -1,4 +1,4 @@
-//! One damaged input: the four calls on it, and what is wrong with their answers.
+//! One damaged input: the calls on it, and what is wrong with their answers.
 use crate::calls;
 use crate::corpus::{Ask, Entry, Stock};
 use crate::guarded::Guarded;
@@ -18,7 +18,7 @@ impl Tally {
     }
 
     pub fn show(&self) {
-        for call in ["check", "print expression", "print declaration", "layout"] {
+        for call in ["check", "print expression", "print declaration", "layout", "hand out a string", "hand out a text"] {
             let numbers: Vec<String> = self.0.iter().filter(|((c, _), _)| *c == call).map(|((_, n), k)| format!("{n}: {k}")).collect();
             println!("{call}: {}", numbers.join(", "));
         }
@@ -59,7 +59,30 @@ fn pool_calls(stock: &Stock, r: &mut Random, tally: &mut Tally) -> Result<(), St
         print(&pool, root, sizes, &mut areas, checked, r, tally)
             .map_err(|what| format!("{root:?}, indent and width {sizes:?}, areas {lengths:?}: {what}"))?;
     }
+    hand_out_string(&pool, checked.0 == 0, r, tally)?;
     need(pool == before, "a call changed the pool")
+}
+
+/// A string row of the pool, there or not.
+fn hand_out_string(pool: &Pool, accepted: bool, r: &mut Random, tally: &mut Tally) -> Result<(), String> {
+    let row = r.below(pool.count(Table::Strings).min(65_536) as usize + 2) as u32;
+    let row = mutate::number(r, row);
+    let mut out = new_out(r);
+    let number = calls::hand_out(pool, Given::default(), (1, row), &mut out);
+    tally.count("hand out a string", number);
+    let pair = pool.row(Table::Strings, row.into()).filter(|_| accepted).map(|pair| [pair[0], pair[1]]);
+    judge::handed_out(number, &out, pair, &pool.bytes).map_err(|what| format!("string row {row}: {what}"))
+}
+
+/// A row of a document, there or not, a text or not.
+fn hand_out_text(given: Given<'_>, accepted: bool, r: &mut Random, tally: &mut Tally) -> Result<(), String> {
+    let row = r.below(given.rows.len() / 7 + 2) as u32;
+    let row = mutate::number(r, row);
+    let mut out = new_out(r);
+    let number = calls::hand_out(&Pool::default(), given, (0, row), &mut out);
+    tally.count("hand out a text", number);
+    let words = given.rows.chunks_exact(7).nth(row as usize).filter(|words| accepted && u64::from(row) < given.row_count && words[0] == 0);
+    judge::handed_out(number, &out, words.map(|words| [words[1], words[2]]), given.text).map_err(|what| format!("document row {row}: {what}"))
 }
 
 /// A recorded print of a row of this table, or one of any row.
@@ -162,6 +185,7 @@ fn layout_call(stock: &Stock, r: &mut Random, tally: &mut Tally) -> Result<(), S
     tally.count("layout", number);
     judge::out(number, &out)?;
     need(listing.intact(), "layout: a guard was written")?;
+    hand_out_text(given, number != 9, r, tally)?;
     match number {
         6 | 9 => need(listing.untouched_from(0), "layout: 6 or 9 wrote the listing area"),
         0 if out.seen().len() >= 8 => {

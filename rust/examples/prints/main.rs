@@ -21,7 +21,7 @@ use judge::Areas;
 use request::{Call, Request};
 use std::io::Write;
 use std::process::ExitCode;
-use tilusorgu::Given;
+use tilusorgu::{Given, Pool};
 
 /// A print or a layout that succeeded, or the refusal.
 #[derive(Default)]
@@ -62,6 +62,13 @@ pub fn layout(given: Given<'_>, width: u32, length: usize) -> Result<(Guarded<u6
     let written = if number == 22 { length } else { out.seen()[4] as usize };
     judge::need(written <= length && listing.untouched_from(written), "layout: the listing area was written past the listing")?;
     Ok((out, listing))
+}
+
+fn hand_out(pool: &Pool, given: Given<'_>, what: (u32, u32)) -> Result<Guarded<u64>, String> {
+    let mut out = new_out();
+    let number = calls::hand_out(pool, given, what, &mut out);
+    judge::out(number, &out)?;
+    Ok(out)
 }
 
 /// In areas that are long enough: rows and texts as long as a document can be, and a listing area that grows.
@@ -139,6 +146,11 @@ fn exactly(q: &Request, [rows, text, listing]: [u32; 3]) -> Result<Vec<u8>, Stri
             judge::out(number, &out)?;
             (out, Areas::new([0, 0, 0]))
         }
+        Call::HandOutText => {
+            let given = Given { rows: &q.pool.words, row_count: rows.into(), text: &q.pool.bytes, text_count: text.into() };
+            (hand_out(&Pool::default(), given, (0, q.row))?, Areas::new([0, 0, 0]))
+        }
+        Call::HandOutString => (hand_out(&q.pool, Given::default(), (1, q.row))?, Areas::new([0, 0, 0])),
     };
     let mut answer: Vec<u8> = out.seen().iter().flat_map(|n| n.to_le_bytes()).collect();
     words(&mut answer, areas.rows.seen());

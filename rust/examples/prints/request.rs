@@ -8,23 +8,28 @@ pub enum Call {
     /// The pool's words and bytes are a document's rows and text.
     Layout,
     Check,
+    /// The root is a row of the document that the pool's words and bytes are.
+    HandOutText,
+    /// The root is a string row.
+    HandOutString,
 }
 
 pub struct Request {
     pub call: Call,
-    root: u32,
+    pub row: u32,
     pub indent: u32,
     pub width: u32,
     pub pool: Pool,
-    /// Those of the areas, of a request for one call alone: rows (in words), text and listing; of a layout the counts of its rows and text bytes, and the listing.
+    /// Those of the areas, of a request for one call alone: rows (in words), text and listing; of a layout the counts of its rows and text bytes, and the listing;
+    /// of a text to hand out the two counts.
     pub lengths: Option<[u32; 3]>,
 }
 
 impl Request {
     pub fn root(&self) -> Root {
         match self.call {
-            Call::PrintDeclar => Root::Declar(self.root),
-            _ => Root::Expr(self.root),
+            Call::PrintDeclar => Root::Declar(self.row),
+            _ => Root::Expr(self.row),
         }
     }
 }
@@ -57,6 +62,6 @@ pub fn next(data: &mut &[u8]) -> Option<Request> {
     let count = words(data, 1)[0] as usize;
     let pool = Pool { bytes: area, words: words(data, count) };
     let lengths = alone.then(|| words(data, 3).try_into().expect("three lengths"));
-    let call = [Call::PrintExpr, Call::PrintDeclar, Call::Layout, Call::Check][head[0] as usize];
-    Some(Request { call, root: head[1], indent: head[2], width: head[3], pool, lengths })
+    let call = [Call::PrintExpr, Call::PrintDeclar, Call::Layout, Call::Check, Call::HandOutText, Call::HandOutString][head[0] as usize];
+    Some(Request { call, row: head[1], indent: head[2], width: head[3], pool, lengths })
 }
