@@ -139,7 +139,8 @@ def by_model(c):
         number, place = model.check(c.area, c.words)
         return Called(number, place, None, model.Areas([], b"", b""), None)
     if c.mode in (TEXT, STRING):
-        handed = model.hand_out_text(c.words, c.lengths[0], c.area, c.lengths[1], c.root) if c.mode == TEXT else model.hand_out_string(model.Pool(c.area, c.words), c.root)
+        of_text = lambda: model.hand_out_text(c.words, c.lengths[0], c.area, c.lengths[1], c.root)
+        handed = of_text() if c.mode == TEXT else model.hand_out_string(model.Pool(c.area, c.words), c.root)
         return Called(0, 0, bytes(handed), model.Areas([], b"", b""), None)
     rows, text, listing = area_lengths(c)
     lent = model.Areas([FILL * 0x01010101] * rows, bytearray([FILL]) * text, bytearray([FILL]) * listing)

@@ -119,7 +119,7 @@ fn texts_of_printed_documents() {
     assert!(printed > 100, "{printed} prints");
 }
 
-/// Every string of the samples, with and without sharing of rows.
+/// Every string of the samples; those of a refused one are empty.
 #[test]
 fn strings_of_samples() {
     let (mut accepted, mut refused) = (0, 0);

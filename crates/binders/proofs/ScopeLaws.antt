@@ -13,7 +13,7 @@ use Rattle.pool.specs.Tables.{Pool, N}
 use Rattle.pool.specs.Tree.{Expr, var, sort, const, app, pi, lam, letᵉ, proj, nat, str, lift}
 use Rattle.pool.specs.Unfold.{nameAt}
 use Rattle.binders.specs.declared.stack.Stack.{Stack}
-use Rattle.pieces.specs.Docs.{number}
+use Rattle.pieces.specs.Docs.{numberDoc}
 use Rattle.names.specs.Names.{nameDoc}
 use Rattle.binders.specs.Binders.{binders, chainBody, pushed}
 use Rattle.binders.specs.Variables.{varDoc}
@@ -146,11 +146,11 @@ unfolding placeBy outward
 place-out k h i = refl
 
 -- a place past the names prints its index
-pub past-names : (p : Pool) (k : Stack) (m j index : ℕ) → varDoc (namesBelow p k m) (m + j) index ≡ number index
+pub past-names : (p : Pool) (k : Stack) (m j index : ℕ) → varDoc (namesBelow p k m) (m + j) index ≡ numberDoc index
 unfolding namesBelow varDoc
 past-names p k zero j index = past j
   where
-    past : (n : ℕ) → varDoc [] n index ≡ number index
+    past : (n : ℕ) → varDoc [] n index ≡ numberDoc index
     past zero = refl
     past (suc n) = refl
 past-names p k (suc m) j index = rw (suc-add m j) (past-names p k m j index)
@@ -255,7 +255,7 @@ link-within k w (suc h) n b =
 
 -- what a variable prints, once its scope was reached
 pub prints-past : (p : Pool) (k : Stack) (h i scope left n : ℕ) (st : State) → Reached k h i scope left → scope ≡ 0 → n ≡ k .count + left →
-    emit (number n) st ≡ emit (varDoc (namesOf p k) (placeIn k h i) (placeIn k h i)) st
+    emit (numberDoc n) st ≡ emit (varDoc (namesOf p k) (placeIn k h i) (placeIn k h i)) st
 unfolding namesOf
 prints-past p k h i scope left n st r z e =
     let place : placeIn k h i ≡ k .count + left = r .place ∙ ap (λ (x : ℕ). placeIn k x left) z ∙ place-past k left in

@@ -4,7 +4,7 @@ use mathlib.Core.Bool.{Bool, _||_}
 use lib.Dec.{eqb}
 use Rattle.document.specs.Walk.{Marked, textᵐ}
 use Rattle.pool.specs.Tree.{Expr, var, sort, const, app, pi, lam, letᵉ, proj, nat, str}
-use Rattle.pieces.specs.Docs.{_⊹_, quoted, number}
+use Rattle.pieces.specs.Docs.{_⊹_, quoted, numberDoc}
 use Rattle.names.specs.Names.{nameDoc}
 use Rattle.levels.specs.Levels.{sortDoc}
 
@@ -13,7 +13,7 @@ unfoldable pub leafKind : ℕ → Bool
 leafKind kind = (eqb kind 1 || eqb kind 2) || (eqb kind 8 || eqb kind 9)
 
 unfoldable pub leafDoc : Expr → Marked
-leafDoc (var i) = number i
+leafDoc (var i) = numberDoc i
 leafDoc (sort l) = sortDoc l
 leafDoc (const n ls) = quoted "@" ⊹ nameDoc n
 leafDoc (app f a) = quoted ""

@@ -6,7 +6,7 @@ use mathlib.Core.List.{List, [], _∷_}
 use Rattle.utf8.specs.Quoted.{bytes}
 use Rattle.document.specs.Walk.{Marked}
 use Rattle.document.specs.Sink.{State, putText, putJoin, putBreak, putNest, putGroup, emit}
-use Rattle.pieces.specs.Docs.{number}
+use Rattle.pieces.specs.Docs.{numberDoc}
 use Rattle.pieces.specs.Tiles.{endTile}
 use Rattle.binders.specs.Binders.{Binder, isArrow, opening, closing}
 
@@ -59,7 +59,7 @@ innerOf b = cond (isArrow b) 24 0
 
 -- after the structure of a projection: G(..)+"."+number
 unfoldable pub endProj : ℕ → State → State
-endProj i st = putJoin (emit (number (i + 1)) (joinPiece "." (putGroup st)))
+endProj i st = putJoin (emit (numberDoc (i + 1)) (joinPiece "." (putGroup st)))
 
 -- "let"+" "
 unfoldable pub startLet : State → State

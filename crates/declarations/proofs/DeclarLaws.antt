@@ -29,7 +29,7 @@ use Rattle.pretty_printer.specs.Exprs.{exprPar, exprDoc}
 use Rattle.binders.specs.Rename.{up, rename}
 use Rattle.binders.specs.Scopes.{namesBelow, namesOf, placeIn, Linked, Held, scoped, lastScope, Chained}
 use Rattle.binders.specs.Asked.{Pooled, Asked, InChain, ChainPushed, RunEnd}
-use Rattle.declarations.specs.Declars.{word, info, Taken, taken, defRest, axiomRest, mainDef, mainAxiom, declarDoc}
+use Rattle.declarations.specs.Declars.{keyword, info, Taken, taken, defRest, axiomRest, mainDef, mainAxiom, declarDoc}
 use Rattle.binders.specs.Steps.{isBinder, inRun, runLength, chainLength, dropChain}
 use Rattle.binders.specs.Puts.{joinPiece}
 use Rattle.pretty_printer.specs.Parts.{printed, inScope, chainPart, groupsPart}
@@ -73,8 +73,8 @@ declar-row p sound r h =
 -- ---- words
 
 -- the word of a kind is the word of that number
-declar-word : (kind : ℕ) → kind < 8 → (st : State) → putText (wordBytes kind) st ≡ emit (word kind) st
-unfolding word quoted emit
+declar-word : (kind : ℕ) → kind < 8 → (st : State) → putText (wordBytes kind) st ≡ emit (keyword kind) st
+unfolding keyword quoted emit
 declar-word zero h st = refl
 declar-word (suc zero) h st = refl
 declar-word (suc (suc zero)) h st = refl

@@ -15,15 +15,15 @@ use Rattle.pretty_printer.specs.Exprs.{exprPar}
 use Rattle.binders.specs.Options.{PpOptions}
 
 -- "Word (axiom, Quotient primitive, theorem, def, opaque, inductive, constructor, recursor)" by kind
-unfoldable pub word : ℕ → Marked
-word zero = quoted "axiom"
-word (suc zero) = quoted "Quotient primitive"
-word (suc (suc zero)) = quoted "theorem"
-word (suc (suc (suc zero))) = quoted "def"
-word (suc (suc (suc (suc zero)))) = quoted "opaque"
-word (suc (suc (suc (suc (suc zero))))) = quoted "inductive"
-word (suc (suc (suc (suc (suc (suc zero)))))) = quoted "constructor"
-word (suc (suc (suc (suc (suc (suc (suc k))))))) = quoted "recursor"
+unfoldable pub keyword : ℕ → Marked
+keyword zero = quoted "axiom"
+keyword (suc zero) = quoted "Quotient primitive"
+keyword (suc (suc zero)) = quoted "theorem"
+keyword (suc (suc (suc zero))) = quoted "def"
+keyword (suc (suc (suc (suc zero)))) = quoted "opaque"
+keyword (suc (suc (suc (suc (suc zero))))) = quoted "inductive"
+keyword (suc (suc (suc (suc (suc (suc zero)))))) = quoted "constructor"
+keyword (suc (suc (suc (suc (suc (suc (suc k))))))) = quoted "recursor"
 
 -- "Info: name+("."+G("{"+tile of levels+"}")), or name+empty text for no levels."
 unfoldable pub info : Name → List Level → Marked
@@ -66,7 +66,7 @@ module _ (opts : PpOptions) where
       let t : Taken = taken bs value 0 in
       let remaining : List Binder = drop (t .count) bs in
       let T : Marked = nestᵐ (opts .indent) (line ⊹ G (under 0 (bindersPar opts pp remaining (pp (chainBody type))))) in
-      word kind
+      keyword kind
       ⊹ quoted " "
       ⊹ info name levels
       ⊹ quoted " "
@@ -83,7 +83,7 @@ module _ (opts : PpOptions) where
       let bs : List Binder = binders type in
       let pp : Expr → Parenable = exprPar opts (pushed bs []) in
       let T : Marked = under 0 (bindersPar opts pp (following isNamedPi bs) (pp (chainBody type))) in
-      word kind
+      keyword kind
       ⊹ quoted " "
       ⊹ info name levels
       ⊹ quoted " "

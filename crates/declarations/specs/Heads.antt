@@ -15,7 +15,7 @@ use Rattle.pieces.specs.Docs.{_⊹_, quoted, line, G, under}
 use Rattle.binders.specs.declared.stack.Stack.{Stack}
 use Rattle.binders.specs.Asked.{Pooled}
 use Rattle.binders.specs.Binders.{binders}
-use Rattle.declarations.specs.Declars.{word, info, canLeave, Taken, taken, defRest, axiomRest}
+use Rattle.declarations.specs.Declars.{keyword, info, canLeave, Taken, taken, defRest, axiomRest}
 use Rattle.binders.specs.Scopes.{scoped}
 use Rattle.binders.specs.Steps.{firstBinder, isBinder, inRun, chainLength, dropChain}
 use Rattle.binders.specs.Puts.{joinPiece}
@@ -42,7 +42,7 @@ pub record TakenEnd (p : Pool) (r v row value count : ℕ) : Type 0 where
 
 -- word, info, and the blanks after them
 unfoldable pub headPart : ℕ → Name → List Level → Marked
-headPart kind name levels = word kind ⊹ quoted " " ⊹ info name levels ⊹ quoted " "
+headPart kind name levels = keyword kind ⊹ quoted " " ⊹ info name levels ⊹ quoted " "
 
 module _ (opts : PpOptions) (p : Pool) (k : Stack) where
   -- "T = N(|+G(remaining type))", after m binders

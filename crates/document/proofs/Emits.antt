@@ -9,7 +9,7 @@ use Rattle.document.specs.declared.measures.Measures.{Measures}
 use Rattle.document.specs.Doc.{Doc, text, join, break, nest, group, rowCount, flatSize, firstBreak, hasBreak, textBytes}
 use Rattle.document.specs.Rows.{word, leftOf, measuresAt, joined, wrapped}
 use Rattle.document.specs.Stored.{measures, rowOf, ownRow, stored, Fine}
-use Rattle.document.specs.Walk.{Marked, textᵐ, joinᵐ, breakᵐ, nestᵐ, groupᵐ, names, plain, Event, row, named, Progress, going, stopped, step, steps}
+use Rattle.document.specs.Walk.{Marked, textᵐ, joinᵐ, breakᵐ, nestᵐ, groupᵐ, names, unmarked, Event, row, named, Progress, going, stopped, step, steps}
 use Rattle.document.specs.Walk.{textEvents, events, walk}
 use Rattle.document.specs.Sink.{State, rowWords, putRow, putBytes, endText, putText, putBreak, putJoin, putWrapped, putNames, emit, cleared}
 use Rattle.document.specs.Sink.State.{state}
@@ -169,9 +169,9 @@ text-fits t s h =
     rw (p, q)
 
 -- emitting a marked document agrees with its walk
-pub emit-agrees : (R T : ℕ) (m : Marked) → Fine (plain m) → (pre rest tpre trest : List ℕ) (r t : ℕ) → At R T pre rest tpre trest r t
-    → Agree R T pre rest tpre trest (stored t (plain m)) (textBytes (plain m)) (steps R T (going r t) (events m)) (emit m (areas pre rest tpre trest r t))
-unfolding plain events emit stored ownRow textBytes Fine putText putBreak steps rowCount flatSize firstBreak hasBreak
+pub emit-agrees : (R T : ℕ) (m : Marked) → Fine (unmarked m) → (pre rest tpre trest : List ℕ) (r t : ℕ) → At R T pre rest tpre trest r t
+    → Agree R T pre rest tpre trest (stored t (unmarked m)) (textBytes (unmarked m)) (steps R T (going r t) (events m)) (emit m (areas pre rest tpre trest r t))
+unfolding unmarked events emit stored ownRow textBytes Fine putText putBreak steps rowCount flatSize firstBreak hasBreak
 emit-agrees R T (textᵐ s) fine pre rest tpre trest r t at =
     agree-words R T pre rest tpre trest (textWords t (length s)) s (rowOf 0 t (length s) (text s))
     (steps R T (going r t) (textEvents s)) (endText t (putBytes s (areas pre rest tpre trest r t)))
@@ -183,27 +183,27 @@ emit-agrees R T (textᵐ s) fine pre rest tpre trest r t at =
     text-fits t s (omega arith))
     (text-agrees R T s t (length s) pre rest tpre trest r t at refl)
 emit-agrees R T (joinᵐ a b) fine pre rest tpre trest r t at =
-    join-emits R T pre rest tpre trest r t at (events a) (events b) (plain a) (plain b) (emit a (areas pre rest tpre trest r t)) (emit b) fine (stays-emit b)
+    join-emits R T pre rest tpre trest r t at (events a) (events b) (unmarked a) (unmarked b) (emit a (areas pre rest tpre trest r t)) (emit b) fine (stays-emit b)
     (λ pre′ rest′ tpre′ trest′ r′ t′ at′. emit-agrees R T b (fine .1) pre′ rest′ tpre′ trest′ r′ t′ at′)
     (emit-agrees R T a (fine .0) pre rest tpre trest r t at)
 emit-agrees R T (breakᵐ k) fine pre rest tpre trest r t at =
     fit-row R T pre rest tpre trest r t at 2 k 0 (break k) fine (omega arith) (omega arith) (step R T (going r t) row) (putBreak k (areas pre rest tpre trest r t))
     (row-agrees R T pre rest tpre trest r t at 2 k 0 (measures (break k)))
 emit-agrees R T (nestᵐ n d) fine pre rest tpre trest r t at =
-    wrap-emits R T pre rest tpre trest r t at (events d) (plain d) (nest n (plain d)) 3 n (emit d (areas pre rest tpre trest r t)) fine refl refl
+    wrap-emits R T pre rest tpre trest r t at (events d) (unmarked d) (nest n (unmarked d)) 3 n (emit d (areas pre rest tpre trest r t)) fine refl refl
     (emit-agrees R T d (fine .1) pre rest tpre trest r t at)
 emit-agrees R T (groupᵐ d) fine pre rest tpre trest r t at =
-    wrap-emits R T pre rest tpre trest r t at (events d) (plain d) (group (plain d)) 4 0 (emit d (areas pre rest tpre trest r t)) fine refl refl
+    wrap-emits R T pre rest tpre trest r t at (events d) (unmarked d) (group (unmarked d)) 4 0 (emit d (areas pre rest tpre trest r t)) fine refl refl
     (emit-agrees R T d fine pre rest tpre trest r t at)
 emit-agrees R T (names place count d) fine pre rest tpre trest r t at =
-    then R T pre rest tpre trest [] [] (stored t (plain d)) (textBytes (plain d)) (step R T (going r t) (named place count)) (events d) (emit d)
+    then R T pre rest tpre trest [] [] (stored t (unmarked d)) (textBytes (unmarked d)) (step R T (going r t) (named place count)) (events d) (emit d)
     (putNames place count (areas pre rest tpre trest r t)) (stays-emit d)
     (λ r′ t′ at′.
     let a = at .text-at in
     let b = at′ .text-at in
     let l = length-append tpre [] in
     let tu : t′ ≡ t = omega arith in
-    subst (λ (x : ℕ). Agree R T (pre ++ []) rest (tpre ++ []) trest (stored x (plain d)) (textBytes (plain d)) (steps R T (going r′ t′) (events d))
+    subst (λ (x : ℕ). Agree R T (pre ++ []) rest (tpre ++ []) trest (stored x (unmarked d)) (textBytes (unmarked d)) (steps R T (going r′ t′) (events d))
     (emit d (areas (pre ++ []) rest (tpre ++ []) trest r′ t′))) tu
     (emit-agrees R T d fine (pre ++ []) rest (tpre ++ []) trest r′ t′ at′))
     (names-agree R T pre rest tpre trest r t at place count)
@@ -228,8 +228,8 @@ pub record Emitted (R T : ℕ) (d : Doc) (r t : ℕ) (st : State) : Type 0 where
   pub text-fits : length (textBytes d) ≤ T
   pub is : st ≡ state (stored 0 d ++ replicate (R - rowCount d * 7) 0) (textBytes d ++ replicate (T - length (textBytes d)) 0) (sinkAt (rowCount d) (length (textBytes d)))
 
-cleared-agrees : (R T : ℕ) (m : Marked) → Fine (plain m) → Agree R T [] (replicate {A = ℕ} R 0) [] (replicate {A = ℕ} T 0) (stored 0 (plain m))
-    (textBytes (plain m)) (walk R T m) (emit m (cleared R T))
+cleared-agrees : (R T : ℕ) (m : Marked) → Fine (unmarked m) → Agree R T [] (replicate {A = ℕ} R 0) [] (replicate {A = ℕ} T 0) (stored 0 (unmarked m))
+    (textBytes (unmarked m)) (walk R T m) (emit m (cleared R T))
 unfolding walk
 cleared-agrees R T m fine =
     let l = length-replicate {A = ℕ} R 0 in
@@ -237,9 +237,9 @@ cleared-agrees R T m fine =
     emit-agrees R T m fine [] (replicate {A = ℕ} R 0) [] (replicate {A = ℕ} T 0) 0 0
     (record { rows-at = refl; text-at = refl; rows-long = omega arith; text-long = omega arith; few = omega arith; small = omega arith })
 
-pub emit-of-going-walk : (R T : ℕ) (m : Marked) → Fine (plain m) → (r t : ℕ) → walk R T m ≡ going r t → Emitted R T (plain m) r t (emit m (cleared R T))
+pub emit-of-going-walk : (R T : ℕ) (m : Marked) → Fine (unmarked m) → (r t : ℕ) → walk R T m ≡ going r t → Emitted R T (unmarked m) r t (emit m (cleared R T))
 emit-of-going-walk R T m fine r t e =
-    let d : Doc = plain m in
+    let d : Doc = unmarked m in
     let g : Grown R T [] (replicate {A = ℕ} R 0) [] (replicate {A = ℕ} T 0) (stored 0 d) (textBytes d) r t (emit m (cleared R T)) =
     subst (λ (p : Progress). Agree R T [] (replicate {A = ℕ} R 0) [] (replicate {A = ℕ} T 0) (stored 0 d) (textBytes d) p (emit m (cleared R T))) e (cleared-agrees R T m fine) in
     let ls = stored-length 0 d in
@@ -267,6 +267,6 @@ emit-of-going-walk R T m fine r t e =
     }
 
 -- a walk that is refused: the sink has the number and the place
-pub emit-of-stopped-walk : (R T : ℕ) (m : Marked) → Fine (plain m) → (number place : ℕ) → walk R T m ≡ stopped number place → Stopped number place (emit m (cleared R T))
+pub emit-of-stopped-walk : (R T : ℕ) (m : Marked) → Fine (unmarked m) → (number place : ℕ) → walk R T m ≡ stopped number place → Stopped number place (emit m (cleared R T))
 emit-of-stopped-walk R T m fine number place e =
-    subst (λ (p : Progress). Agree R T [] (replicate {A = ℕ} R 0) [] (replicate {A = ℕ} T 0) (stored 0 (plain m)) (textBytes (plain m)) p (emit m (cleared R T))) e (cleared-agrees R T m fine)
+    subst (λ (p : Progress). Agree R T [] (replicate {A = ℕ} R 0) [] (replicate {A = ℕ} T 0) (stored 0 (unmarked m)) (textBytes (unmarked m)) p (emit m (cleared R T))) e (cleared-agrees R T m fine)

@@ -17,7 +17,7 @@ use Rattle.basics.proofs.Booleans.{and-intro}
 use Rattle.document.proofs.Holds.{Holds, holds-front, holds-to, holds-left, holds-right, holds-at, holds-part}
 use Rattle.document.proofs.Words.{Kept, Same, of-same}
 
-split : (i k : ℕ) → (i < k) ⊎ (k ≤ i)
+pub split : (i k : ℕ) → (i < k) ⊎ (k ≤ i)
 split i k = go (ltb i k) refl
   where
     go : (b : Bool) → ltb i k ≡ b → (i < k) ⊎ (k ≤ i)
@@ -80,7 +80,8 @@ module _ (rows : List ℕ) where
   own-words (nest m d) t r h = words 3 m 0 (nest m d) r h
   own-words (group d) t r h = words 4 0 0 (group d) r h
 
-  right-rows : (a b : Doc) (t p : ℕ) → Holds rows (p * 7) (stored t (join a b)) → Holds rows ((p + rowCount a) * 7) (stored (t + length (textBytes a)) b)
+  -- the rows of a join's right child
+  pub right-rows : (a b : Doc) (t p : ℕ) → Holds rows (p * 7) (stored t (join a b)) → Holds rows ((p + rowCount a) * 7) (stored (t + length (textBytes a)) b)
   unfolding stored
   right-rows a b t p h =
       let x = stored-length t a in

@@ -16,13 +16,13 @@ pub data Marked : Type 0 where
   names : ℕ → ℕ → Marked → Marked
 
 -- the document without the marks
-unfoldable pub plain : Marked → Doc
-plain (textᵐ s) = text s
-plain (joinᵐ a b) = join (plain a) (plain b)
-plain (breakᵐ k) = break k
-plain (nestᵐ m d) = nest m (plain d)
-plain (groupᵐ d) = group (plain d)
-plain (names place count d) = plain d
+unfoldable pub unmarked : Marked → Doc
+unmarked (textᵐ s) = text s
+unmarked (joinᵐ a b) = join (unmarked a) (unmarked b)
+unmarked (breakᵐ k) = break k
+unmarked (nestᵐ m d) = nest m (unmarked d)
+unmarked (groupᵐ d) = group (unmarked d)
+unmarked (names place count d) = unmarked d
 
 -- a text byte, a row, names that come into force
 pub data Event : Type 0 where

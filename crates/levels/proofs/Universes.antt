@@ -20,7 +20,7 @@ use Rattle.pool.proofs.RowUnfolds as rows
 use Rattle.pool.proofs.RowUnfolds.{LevelRow, is-zero, is-succ, is-max, is-imax, is-param}
 use Rattle.pool.specs.Ready.{Ready}
 use Rattle.pieces.specs.Words.{wordBytes}
-use Rattle.pieces.specs.Docs.{_⊹_, quoted, line, G, Parenable, withInner, under, tileFrom, tile, number}
+use Rattle.pieces.specs.Docs.{_⊹_, quoted, line, G, Parenable, withInner, under, tileFrom, tile, numberDoc}
 use Rattle.pieces.specs.Parens.{openIf, closeIf}
 use Rattle.pieces.specs.Tiles.{endTile, putTile}
 use Rattle.names.specs.Names.{nameDoc}
@@ -38,11 +38,11 @@ unfolding under
 under-most outer d st h = rw (le-ltb 1024 outer h)
 
 pub plus-emits : (outer : ℕ) (q : Parenable) (n : ℕ) (st : State) → 0 < n
-    → closeIf (ltb 0 outer) (putJoin (emit (number n) (putJoin (putText (bytes "+") (emit (under 1 q) (openIf (ltb 0 outer) st))))))
+    → closeIf (ltb 0 outer) (putJoin (emit (numberDoc n) (putJoin (putText (bytes "+") (emit (under 1 q) (openIf (ltb 0 outer) st))))))
     ≡ emit (under outer (plus q n)) st
 unfolding plus emit quoted
 plus-emits outer q zero st h = absurd (omega arith)
-plus-emits outer q (suc n) st h = sym (under-emits outer (withInner 0 (under 1 q ⊹ quoted "+" ⊹ number (suc n))) st)
+plus-emits outer q (suc n) st h = sym (under-emits outer (withInner 0 (under 1 q ⊹ quoted "+" ⊹ numberDoc (suc n))) st)
 
 module _ (bs ns ws : List ℕ) (r : ℕ) where
   pub succ-below : LevelRow (over bs ns ws) r → levelWord ws r 0 ≡ 1 → levelWord ws r 1 < r
@@ -62,9 +62,9 @@ module _ (bs ns ws : List ℕ) (r : ℕ) where
   succ-on (is-param k l e) q n = absurd (omega arith)
 
   pub zero-emits : LevelRow (over bs ns ws) r → levelWord ws r 0 ≡ 0 → (outer n : ℕ) (st : State) → outer ≤ 1024
-      → emit (number n) st ≡ emit (under outer (succsPar (levelAt (over bs ns ws) r) n)) st
+      → emit (numberDoc n) st ≡ emit (under outer (succsPar (levelAt (over bs ns ws) r) n)) st
   unfolding succsPar
-  zero-emits (is-zero k e) q outer n st h = rw e (under-most outer (number n) st h)
+  zero-emits (is-zero k e) q outer n st h = rw e (under-most outer (numberDoc n) st h)
   zero-emits (is-succ k l e) q outer n st h = absurd (omega arith)
   zero-emits (is-max k l m e) q outer n st h = absurd (omega arith)
   zero-emits (is-imax k l m e) q outer n st h = absurd (omega arith)

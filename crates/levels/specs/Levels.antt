@@ -4,13 +4,13 @@ use Prim.Native.String.{String}
 use mathlib.Core.List.{List, [], _∷_, map}
 use Rattle.document.specs.Walk.{Marked}
 use Rattle.pool.specs.Tree.{Level, zeroˡ, succˡ, maxˡ, imaxˡ, paramˡ}
-use Rattle.pieces.specs.Docs.{_⊹_, quoted, line, G, Parenable, withInner, under, tile, number}
+use Rattle.pieces.specs.Docs.{_⊹_, quoted, line, G, Parenable, withInner, under, tile, numberDoc}
 use Rattle.names.specs.Names.{nameDoc}
 
 -- "of another, that one under 1, "+", n, inner 0"
 unfoldable pub plus : Parenable → ℕ → Parenable
 plus base zero = base
-plus base (suc n) = withInner 0 (under 1 base ⊹ quoted "+" ⊹ number (suc n))
+plus base (suc n) = withInner 0 (under 1 base ⊹ quoted "+" ⊹ numberDoc (suc n))
 
 -- "max"+" "+a+|+b (also "imax"), operands under 1, inner 0"
 unfoldable pub maxPar : String → Parenable → Parenable → Parenable
@@ -18,7 +18,7 @@ maxPar word a b = withInner 0 (quoted word ⊹ quoted " " ⊹ under 1 a ⊹ line
 
 -- n successors of a level: "n successors of zero print n, inner 1,024"; "parameter 1,024"
 unfoldable pub succsPar : Level → ℕ → Parenable
-succsPar zeroˡ n = withInner 1024 (number n)
+succsPar zeroˡ n = withInner 1024 (numberDoc n)
 succsPar (succˡ a) n = succsPar a (suc n)
 succsPar (maxˡ a b) n = plus (maxPar "max" (succsPar a 0) (succsPar b 0)) n
 succsPar (imaxˡ a b) n = plus (maxPar "imax" (succsPar a 0) (succsPar b 0)) n

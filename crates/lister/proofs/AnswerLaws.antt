@@ -6,7 +6,7 @@ use mathlib.Core.Path.{_≡_, refl}
 use lib.Dec.{ltb, eqb}
 use lib.ListN.{length}
 use Rattle.document.specs.Doc.{Doc}
-use Rattle.document.specs.Walk.{Marked, plain, Progress, going, stopped, walk}
+use Rattle.document.specs.Walk.{Marked, unmarked, Progress, going, stopped, walk}
 use Rattle.layout.specs.declared.Counts.{Counts}
 use Rattle.layout.specs.declared.Laid.the-variants as laids
 use Rattle.layout.specs.Call as layout
@@ -15,7 +15,7 @@ use Rattle.lister.specs.declared.Answer.{Answer}
 use Rattle.lister.specs.declared.Answer.the-variants.{Pool}
 use Rattle.lister.specs.Answers.{number, refusal, stopAnswer, ofLaid}
 use Rattle.lister.specs.Source.{isAccepted}
-use Rattle.lister.specs.Prints.{Areas, Outcome, untouched, cleared, listed, afterWalk, printDoc, checked}
+use Rattle.lister.specs.Prints.{Areas, Outcome, untouched, documentCleared, documentListed, afterWalk, printDoc, checked}
 
 -- a print that has begun answers 0, or 7 and more
 unfoldable pub Late : ℕ → Type 0
@@ -31,8 +31,8 @@ late-stop n at = by (eqb n 7) (eqb n 8) (eqb n 20)
     by false false true = λ h k. omega arith
     by false false false = λ h k. omega arith
 
-late-listed : (rows bytes width : ℕ) (d : Doc) (areas : Areas) → Late (number (listed rows bytes width d areas .answer))
-unfolding Late listed layout.listed ofLaid number
+late-listed : (rows bytes width : ℕ) (d : Doc) (areas : Areas) → Late (number (documentListed rows bytes width d areas .answer))
+unfolding Late documentListed layout.listed ofLaid number
 late-listed rows bytes width d areas = by (ltb (length (areas .listing)) _) _
   where
     by : (full : Bool) (counts : Counts) → Late (number (ofLaid (cond full laids.Listing (laids.Done counts))))
@@ -40,13 +40,13 @@ late-listed rows bytes width d areas = by (ltb (length (areas .listing)) _) _
     by false counts = λ h k. omega arith
 
 late-walk : (p : Progress) (d : Doc) (width : ℕ) (areas : Areas) → Late (number (afterWalk p d width areas .answer))
-unfolding afterWalk cleared
+unfolding afterWalk documentCleared
 late-walk (stopped n at) d width areas = late-stop n at
 late-walk (going rows bytes) d width areas = late-listed rows bytes width d areas
 
 pub late-print : (m : Marked) (width : ℕ) (areas : Areas) → Late (number (printDoc m width areas .answer))
 unfolding printDoc
-late-print m width areas = late-walk (walk (length (areas .rows)) (length (areas .text)) m) (plain m) width areas
+late-print m width areas = late-walk (walk (length (areas .rows)) (length (areas .text)) m) (unmarked m) width areas
 
 -- "1 to 6 .. change no area"
 pub early-refusals-change-no-area :

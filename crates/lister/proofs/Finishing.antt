@@ -15,7 +15,7 @@ use Rattle.document.specs.declared.sink.Sink.{Sink}
 use Rattle.document.specs.Doc.{Doc, rowCount, textBytes}
 use Rattle.document.specs.Rows.{Accepted}
 use Rattle.document.specs.Stored.{stored, Fine}
-use Rattle.document.specs.Walk.{Marked, plain, Progress, going, stopped, walk}
+use Rattle.document.specs.Walk.{Marked, unmarked, Progress, going, stopped, walk}
 use Rattle.document.specs.Sink.{State, rowsOf, textOf, sinkOf, emit}
 use Rattle.document.specs.Sink as sink
 use Rattle.document.specs.Sink.State.{state}
@@ -29,7 +29,7 @@ use Rattle.layout.specs.Call as call
 use Rattle.lister.specs.declared.Answer.{Answer}
 use Rattle.lister.specs.declared.Answer.the-variants.{TextArea, Listing}
 use Rattle.lister.specs.Answers.{stopAnswer, ofLaid}
-use Rattle.lister.specs.Prints.{Areas, Outcome, cleared, filled, listed, afterWalk, printDoc}
+use Rattle.lister.specs.Prints.{Areas, Outcome, documentCleared, filled, documentListed, afterWalk, printDoc}
 use Rattle.lister.specs.Stages.{laidOut, finished}
 
 -- the areas with what a walk left in the document areas
@@ -56,8 +56,8 @@ module _ (d : Doc) (fine : Fine d) (few : rowCount d ≤ 16384) (small : length 
   standing-accepted = stored-accepted d moreRows moreTexts fine few small
 
   -- a document that stands in the areas is laid out
-  standing-listed : finished (sinkOf there) width (over areas there) ≡ listed (rowCount d) (length (textBytes d)) width d areas
-  unfolding finished laidOut listed filled
+  standing-listed : finished (sinkOf there) width (over areas there) ≡ documentListed (rowCount d) (length (textBytes d)) width d areas
+  unfolding finished laidOut documentListed filled
   standing-listed =
       let e : call.docOf (rowsOf there) (rowCount d) (textOf there) ≡ d = stored-reads-back d moreRows moreTexts in
       let l : length (stored 0 d) ≡ rowCount d * 7 = stored-length 0 d in
@@ -68,7 +68,7 @@ not-zero n e z = let q : true ≡ false = sym (eq-eqb n 0 z) ∙ e in let y : _�
 
 -- A walk from cleared areas ended in the state st: an unrefused one leaves an accepted document, and finishing it is the print.
 module _
-    (m : Marked) (fine : Fine (plain m)) (width : ℕ) (areas : Areas) (st : State)
+    (m : Marked) (fine : Fine (unmarked m)) (width : ℕ) (areas : Areas) (st : State)
     (walked : st ≡ emit m (sink.cleared (length (areas .rows)) (length (areas .text))))
   where
     abbrev R : ℕ
@@ -77,22 +77,22 @@ module _
     abbrev T : ℕ
     T = length (areas .text)
 
-    going-is : (r t : ℕ) → walk R T m ≡ going r t → Emitted R T (plain m) r t st
-    going-is r t e = subst (λ (x : State). Emitted R T (plain m) r t x) (sym walked) (emit-of-going-walk R T m fine r t e)
+    going-is : (r t : ℕ) → walk R T m ≡ going r t → Emitted R T (unmarked m) r t st
+    going-is r t e = subst (λ (x : State). Emitted R T (unmarked m) r t x) (sym walked) (emit-of-going-walk R T m fine r t e)
 
     stopped-is : (n at : ℕ) → walk R T m ≡ stopped n at → Stopped n at st
     stopped-is n at e = subst (λ (x : State). Stopped n at x) (sym walked) (emit-of-stopped-walk R T m fine n at e)
 
-    going-finished : (r t : ℕ) → Emitted R T (plain m) r t st → finished (sinkOf st) width (over areas st) ≡ afterWalk (going r t) (plain m) width areas
+    going-finished : (r t : ℕ) → Emitted R T (unmarked m) r t st → finished (sinkOf st) width (over areas st) ≡ afterWalk (going r t) (unmarked m) width areas
     unfolding afterWalk
     going-finished r t g =
         ap (λ (x : State). finished (sinkOf x) width (over areas x)) (g .is)
-        ∙ standing-listed (plain m) fine (g .few) (g .small) width areas
-        ∙ ap₂ (λ (x y : ℕ). listed x y width (plain m) areas) (sym (g .rows)) (sym (g .text))
+        ∙ standing-listed (unmarked m) fine (g .few) (g .small) width areas
+        ∙ ap₂ (λ (x y : ℕ). documentListed x y width (unmarked m) areas) (sym (g .rows)) (sym (g .text))
 
     stopped-finished : (n at : ℕ) → Stopped n at st → length (rowsOf st) ≡ R → length (textOf st) ≡ T
-        → finished (sinkOf st) width (over areas st) ≡ afterWalk (stopped n at) (plain m) width areas
-    unfolding afterWalk finished cleared
+        → finished (sinkOf st) width (over areas st) ≡ afterWalk (stopped n at) (unmarked m) width areas
+    unfolding afterWalk finished documentCleared
     stopped-finished n at g lr lt = rw (g .stop, g .at, g .some, lr, lt)
 
     pub walk-accepted : sinkOf st .stop ≡ 0 → Accepted (rowsOf st) (sinkOf st .rows) (textOf st) (sinkOf st .text)
@@ -101,7 +101,7 @@ module _
         by : (p : Progress) → walk R T m ≡ p → Accepted (rowsOf st) (sinkOf st .rows) (textOf st) (sinkOf st .text)
         by (going r t) e =
             let g = going-is r t e in
-            subst (λ (x : State). Accepted (rowsOf x) (sinkOf x .rows) (textOf x) (sinkOf x .text)) (sym (g .is)) (standing-accepted (plain m) fine (g .few) (g .small) width areas)
+            subst (λ (x : State). Accepted (rowsOf x) (sinkOf x .rows) (textOf x) (sinkOf x .text)) (sym (g .is)) (standing-accepted (unmarked m) fine (g .few) (g .small) width areas)
         by (stopped n at) e =
             let g = stopped-is n at e in
             absurd (not-zero n (g .some) (sym (g .stop) ∙ h))
@@ -110,7 +110,7 @@ module _
     unfolding printDoc
     walk-finished lr lt = by (walk R T m) refl
       where
-        by : (p : Progress) → walk R T m ≡ p → finished (sinkOf st) width (over areas st) ≡ afterWalk p (plain m) width areas
+        by : (p : Progress) → walk R T m ≡ p → finished (sinkOf st) width (over areas st) ≡ afterWalk p (unmarked m) width areas
         by (going r t) e = going-finished r t (going-is r t e)
         by (stopped n at) e = stopped-finished n at (stopped-is n at e) lr lt
 
@@ -124,7 +124,7 @@ module _ (s : Sink) (width : ℕ) (areas : Areas) (v : Answer) where
   pub stop-finishes : (s .stop ≡ 0 → ⊥) → (rows text : List ℕ) → rows ≡ replicate (length (areas .rows)) 0 → text ≡ replicate (length (areas .text)) 0
       → v ≡ stopAnswer (s .stop) (s .place)
       → record { answer = v; areas = record { rows = rows; text = text; listing = areas .listing } } ≡ finished s width areas
-  unfolding finished cleared
+  unfolding finished documentCleared
   stop-finishes n rows text r t a = rw (r, t, a, ne-eqb (s .stop) 0 n)
 
   pub layout-finishes : s .stop ≡ 0 → (listing : List ℕ) (l : Laid)

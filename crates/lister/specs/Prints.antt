@@ -6,7 +6,7 @@ use lib.Dec.{ltb, leb}
 use lib.ListN.{length, replicate}
 use Rattle.document.specs.Doc.{Doc, textBytes}
 use Rattle.document.specs.Stored.{stored}
-use Rattle.document.specs.Walk.{Marked, plain, Progress, going, stopped, walk}
+use Rattle.document.specs.Walk.{Marked, unmarked, Progress, going, stopped, walk}
 use Rattle.layout.specs.Layout.{pieces}
 use Rattle.layout.specs.Call as layout
 use Rattle.pool_check.specs.declared.Verdict.{Verdict}
@@ -36,8 +36,8 @@ unfoldable pub untouched : Answer → Areas → Outcome
 untouched a areas = record { answer = a; areas = areas }
 
 -- "7, 8, 20, 21 leave both document areas zero"; "other refusals write none" in the listing area
-unfoldable pub cleared : Answer → Areas → Outcome
-cleared a areas =
+unfoldable pub documentCleared : Answer → Areas → Outcome
+documentCleared a areas =
     record {
       answer = a;
       areas =
@@ -53,8 +53,8 @@ unfoldable pub filled : List ℕ → List ℕ → List ℕ
 filled area l = l ++ replicate (length area - length l) 0
 
 -- "22 leaves the document standing"; what is reported and what is written in the listing area is what layout says of the document
-unfoldable pub listed : ℕ → ℕ → ℕ → Doc → Areas → Outcome
-listed rows bytes width d areas =
+unfoldable pub documentListed : ℕ → ℕ → ℕ → Doc → Areas → Outcome
+documentListed rows bytes width d areas =
     let o : layout.Outcome = layout.listed rows bytes (pieces width d) (areas .listing) in
     record {
       answer = ofLaid (o .answer);
@@ -68,11 +68,11 @@ listed rows bytes width d areas =
 
 -- "From 7 on the walk goes in document order ..; the first one met is reported"; layout follows a walk that reached its end
 unfoldable pub afterWalk : Progress → Doc → ℕ → Areas → Outcome
-afterWalk (stopped n at) d width areas = cleared (stopAnswer n at) areas
-afterWalk (going rows bytes) d width areas = listed rows bytes width d areas
+afterWalk (stopped n at) d width areas = documentCleared (stopAnswer n at) areas
+afterWalk (going rows bytes) d width areas = documentListed rows bytes width d areas
 
 unfoldable pub printDoc : Marked → ℕ → Areas → Outcome
-printDoc m width areas = afterWalk (walk (length (areas .rows)) (length (areas .text)) m) (plain m) width areas
+printDoc m width areas = afterWalk (walk (length (areas .rows)) (length (areas .text)) m) (unmarked m) width areas
 
 -- "6: indent over 64 or width over 65,535."
 abbrev pub sizesOk : ℕ → ℕ → Bool

@@ -15,7 +15,7 @@ use Rattle.lister.specs.declared.Answer.{Answer}
 use Rattle.lister.specs.declared.Answer.the-variants.{Pool, Root, Size}
 use Rattle.lister.specs.Answers.{stopAnswer, ofLaid}
 use Rattle.lister.specs.Source.{isAccepted}
-use Rattle.lister.specs.Prints.{Areas, Outcome, cleared}
+use Rattle.lister.specs.Prints.{Areas, Outcome, documentCleared}
 
 -- ---- before a print
 
@@ -52,4 +52,4 @@ laidOut s width areas =
 -- a walk that ended with a sink: refused, or its document is laid out
 unfoldable pub finished : Sink → ℕ → Areas → Outcome
 finished s width areas =
-    cond (eqb (s .stop) 0) (laidOut s width areas) (cleared (stopAnswer (s .stop) (s .place)) areas)
+    cond (eqb (s .stop) 0) (laidOut s width areas) (documentCleared (stopAnswer (s .stop) (s .place)) areas)

@@ -266,22 +266,22 @@ pub extern "C" fn tilusorgu_hand_out(
     bytes: &[u8],
     words: &[u32],
     rows: &[u32],
-    count: u64,
+    row_count: u64,
     text: &[u8],
-    total: u64,
+    text_count: u64,
     kind: u32,
     row: u32,
     out: &mut [u64],
 ) -> u32
-    ensures { λ v. ⌜ HandsOut out v (kindSpan (given bytes words) (was rows) count (was text) total kind row) ⌝ }
+    ensures { λ v. ⌜ HandsOut out v (kindSpan (given bytes words) (was rows) «row_count» (was text) «text_count» kind row) ⌝ }
 {
     let p = kind_span(
         bytes,
         words,
         rows,
-        count as usize,
+        row_count as usize,
         text,
-        total as usize,
+        text_count as usize,
         kind,
         row as usize,
     );

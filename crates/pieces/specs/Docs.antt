@@ -57,5 +57,5 @@ digitsTo (suc k) n = cond (ltb n 10) ((48 + n) ∷ []) (digitsTo k (n / 10) ++ (
 unfoldable pub digits : ℕ → List ℕ
 digits n = digitsTo 20 n
 
-unfoldable pub number : ℕ → Marked
-number n = textᵐ (digits n)
+unfoldable pub numberDoc : ℕ → Marked
+numberDoc n = textᵐ (digits n)

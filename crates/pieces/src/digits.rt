@@ -5,7 +5,7 @@ use document::sink::put_byte;
 ghost use mathlib.Core.Path.{_≡_};
 ghost use Prim.Native.Nat.{_+_, _%_};
 ghost use Rattle.document.specs.Sink.{Leaves, putBytes, emit};
-ghost use Rattle.pieces.specs.Docs.{digits, number};
+ghost use Rattle.pieces.specs.Docs.{digits, numberDoc};
 
 fn digit(n: u64) -> u8
     ensures { λ v. ⌜ v ≡ 48 + n % 10 ⌝ }
@@ -26,7 +26,7 @@ pub fn put_digits(rows: &mut [u32], text: &mut [u8], s: Sink, n: u64) -> Sink
 
 // A number's text.
 pub fn put_number(rows: &mut [u32], text: &mut [u8], s: Sink, n: u64) -> Sink
-    ensures { λ v. ⌜ Leaves rows text s v (emit (number n)) ⌝ }
+    ensures { λ v. ⌜ Leaves rows text s v (emit (numberDoc n)) ⌝ }
 {
     let from = s.text;
     let s = put_digits(rows, text, s, n);

@@ -1,4 +1,4 @@
--- The bound of `exprTo` does not matter: an expression's document is the same for every bound from its depth on.
+-- The bound of `exprParTo` does not matter: an expression's document is the same for every bound from its depth on.
 use Prim.Native.Nat.{ℕ, zero, suc, _+_, _≤_, max}
 use native.Mathlib.Omega.{arith}
 use mathlib.Core.Bool.{Bool, true, false, cond}
@@ -11,7 +11,7 @@ use Rattle.pieces.specs.Docs.{Parenable, G, under, tile}
 use Rattle.binders.specs.Runs.{runs}
 use Rattle.binders.specs.Binders.{Binder, binders, chainBody, pushed, groupDoc, telescope, arrowPar, forallPar, funPar, runPar, runsPar, bindersPar, sameGroup}
 use Rattle.binders.specs.Binders.{goesAlong}
-use Rattle.pretty_printer.specs.Exprs.{appHead, appArgs, appPar, chainPar, exprTo}
+use Rattle.pretty_printer.specs.Exprs.{appHead, appArgs, appPar, chainPar, exprParTo}
 use Rattle.binders.proofs.RunLaws.{All, all-runs}
 use Rattle.binders.specs.Options.{PpOptions}
 use Rattle.binders.specs.Shown.{NamesInForce}
@@ -160,24 +160,24 @@ unfolding All
 all-one P x h = (h, tt)
 
 -- a chain whose binders and body are not deeper than the two bounds
-chain-bound : (opts : PpOptions) (m n : ℕ) → ((ns : NamesInForce) (e : Expr) → depth e ≤ m → depth e ≤ n → exprTo opts m ns e ≡ exprTo opts n ns e) →
+chain-bound : (opts : PpOptions) (m n : ℕ) → ((ns : NamesInForce) (e : Expr) → depth e ≤ m → depth e ≤ n → exprParTo opts m ns e ≡ exprParTo opts n ns e) →
     (ns : NamesInForce) (bs : List Binder) (outside : ℕ) (body : Expr) → All (TypeWithin m) bs → All (TypeWithin n) bs → depth body ≤ m → depth body ≤ n →
-    chainPar opts (exprTo opts m ns) bs outside body ≡ chainPar opts (exprTo opts n ns) bs outside body
+    chainPar opts (exprParTo opts m ns) bs outside body ≡ chainPar opts (exprParTo opts n ns) bs outside body
 chain-bound opts m n below ns bs outside body p q h k =
-    chain-agrees opts (exprTo opts m ns) (exprTo opts n ns) bs outside body
-    (all-two (TypeWithin m) (TypeWithin n) (Agree opts (exprTo opts m ns) (exprTo opts n ns)) (λ b x y. below ns (b .type) x y) bs p q)
+    chain-agrees opts (exprParTo opts m ns) (exprParTo opts n ns) bs outside body
+    (all-two (TypeWithin m) (TypeWithin n) (Agree opts (exprParTo opts m ns) (exprParTo opts n ns)) (λ b x y. below ns (b .type) x y) bs p q)
     (below ns body h k)
 
-step : (opts : PpOptions) (m n : ℕ) → ((ns : NamesInForce) (e : Expr) → depth e ≤ m → depth e ≤ n → exprTo opts m ns e ≡ exprTo opts n ns e) →
-    (ns : NamesInForce) (e : Expr) → depth e ≤ suc m → depth e ≤ suc n → exprTo opts (suc m) ns e ≡ exprTo opts (suc n) ns e
-unfolding exprTo depth
+step : (opts : PpOptions) (m n : ℕ) → ((ns : NamesInForce) (e : Expr) → depth e ≤ m → depth e ≤ n → exprParTo opts m ns e ≡ exprParTo opts n ns e) →
+    (ns : NamesInForce) (e : Expr) → depth e ≤ suc m → depth e ≤ suc n → exprParTo opts (suc m) ns e ≡ exprParTo opts (suc n) ns e
+unfolding exprParTo depth
 step opts m n below ns (var i) h k = refl
 step opts m n below ns (sort l) h k = refl
 step opts m n below ns (const a ls) h k = refl
 step opts m n below ns (app f a) h k =
-    app-agrees opts (exprTo opts m ns) (exprTo opts n ns) (appHead f) (appArgs f (a ∷ []))
+    app-agrees opts (exprParTo opts m ns) (exprParTo opts n ns) (appHead f) (appArgs f (a ∷ []))
     (below ns (appHead f) (omega (arith, head-depth f)) (omega (arith, head-depth f)))
-    (all-two (Within m) (Within n) (λ x. exprTo opts m ns x ≡ exprTo opts n ns x) (λ x p q. below ns x p q) (appArgs f (a ∷ []))
+    (all-two (Within m) (Within n) (λ x. exprParTo opts m ns x ≡ exprParTo opts n ns x) (λ x p q. below ns x p q) (appArgs f (a ∷ []))
     (args-depth m f (a ∷ []) (omega arith) (all-one (Within m) a (omega arith)))
     (args-depth n f (a ∷ []) (omega arith) (all-one (Within n) a (omega arith))))
 step opts m n below ns (pi p a s t b) h k =
@@ -197,7 +197,7 @@ step opts m n below ns (nat s) h k = refl
 step opts m n below ns (str s) h k = refl
 
 -- "an expression's document is the same for every bound from its depth on"
-pub bound-does-not-matter : (opts : PpOptions) (m n : ℕ) (ns : NamesInForce) (e : Expr) → depth e ≤ m → depth e ≤ n → exprTo opts m ns e ≡ exprTo opts n ns e
+pub bound-does-not-matter : (opts : PpOptions) (m n : ℕ) (ns : NamesInForce) (e : Expr) → depth e ≤ m → depth e ≤ n → exprParTo opts m ns e ≡ exprParTo opts n ns e
 bound-does-not-matter opts zero n ns e h k = absurd (omega (arith, depth-positive e))
 bound-does-not-matter opts (suc m) zero ns e h k = absurd (omega (arith, depth-positive e))
 bound-does-not-matter opts (suc m) (suc n) ns e h k = step opts m n (bound-does-not-matter opts m n) ns e h k

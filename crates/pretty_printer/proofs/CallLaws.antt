@@ -14,7 +14,7 @@ use Rattle.pool.specs.Tables.{Pool}
 use Rattle.pool.specs.Tree.{Name, Expr, var, sort, const, app, pi, lam, letᵉ, proj, nat, str, shape, occurs, lift}
 use Rattle.pool.proofs.TreeLaws.{label}
 use Rattle.pool.specs.Unfold.{nameAt}
-use Rattle.pieces.specs.Docs.{_⊹_, quoted, G, NG, Parenable, withInner, under, number}
+use Rattle.pieces.specs.Docs.{_⊹_, quoted, G, NG, Parenable, withInner, under, numberDoc}
 use Rattle.names.specs.Names.{nameDoc}
 use Rattle.levels.specs.Levels.{sortDoc}
 use Rattle.pieces.specs.Parens.{openIf, closeIf}
@@ -112,7 +112,7 @@ module _ (opts : PpOptions) (p : Pool) (k : Stack) (h : ℕ) where
   proj-prints outer n i e st l = rw (
     prints-proj opts (namesOf p k) n i (rename (placeIn k h) e),
     under-top outer
-        (withInner 1024 (G (under 1024 (exprPar opts (namesOf p k) (rename (placeIn k h) e))) ⊹ quoted "." ⊹ number (i + 1))) l refl,
+        (withInner 1024 (G (under 1024 (exprPar opts (namesOf p k) (rename (placeIn k h) e))) ⊹ quoted "." ⊹ numberDoc (i + 1))) l refl,
   )
 
   -- ---- applications

@@ -4,7 +4,7 @@ use mathlib.Core.List.{List, [], _∷_, map}
 use lib.ListN.{length}
 use Rattle.document.specs.Walk.{Marked, textᵐ, names}
 use Rattle.pool.specs.Tree.{Name, Expr, var, sort, const, app, pi, lam, letᵉ, proj, nat, str, depth}
-use Rattle.pieces.specs.Docs.{_⊹_, quoted, line, G, NG, Parenable, withInner, under, tile, number}
+use Rattle.pieces.specs.Docs.{_⊹_, quoted, line, G, NG, Parenable, withInner, under, tile, numberDoc}
 use Rattle.names.specs.Names.{nameDoc}
 use Rattle.levels.specs.Levels.{sortDoc}
 use Rattle.binders.specs.Variables.{varDoc}
@@ -68,25 +68,25 @@ module _ (opts : PpOptions) where
       ⊹ names place inForce (under 0 body)))
 
   -- an expression under the names in force; the bound is at least its depth
-  unfoldable pub exprTo : ℕ → NamesInForce → Expr → Parenable
-  exprTo zero ns e = withInner 1024 (quoted "")
-  exprTo (suc k) ns (var i) = withInner 1024 (varDoc ns i i)
-  exprTo (suc k) ns (sort l) = withInner 1024 (sortDoc l)
-  exprTo (suc k) ns (const n ls) = withInner 1024 (quoted "@" ⊹ nameDoc n)
-  exprTo (suc k) ns (app f a) = appPar (exprTo k ns) (appHead f) (appArgs f (a ∷ []))
-  exprTo (suc k) ns (pi p n s t b) =
-      let bs : List Binder = binders (pi p n s t b) in chainPar (exprTo k (pushed bs ns)) bs (length ns) (chainBody b)
-  exprTo (suc k) ns (lam p n s t b) =
-      let bs : List Binder = binders (lam p n s t b) in chainPar (exprTo k (pushed bs ns)) bs (length ns) (chainBody b)
-  exprTo (suc k) ns (letᵉ p n t v b d) =
-      letPar p (suc (length ns)) n (exprTo k ns t) (exprTo k ns v) (exprTo k (shown n ∷ ns) b)
-  exprTo (suc k) ns (proj n i e) =
-      withInner 1024 (G (under 1024 (exprTo k ns e)) ⊹ quoted "." ⊹ number (i + 1))
-  exprTo (suc k) ns (nat s) = withInner 1024 (textᵐ s)
-  exprTo (suc k) ns (str s) = withInner 1024 (quoted "\"" ⊹ textᵐ s ⊹ quoted "\"")
+  unfoldable pub exprParTo : ℕ → NamesInForce → Expr → Parenable
+  exprParTo zero ns e = withInner 1024 (quoted "")
+  exprParTo (suc k) ns (var i) = withInner 1024 (varDoc ns i i)
+  exprParTo (suc k) ns (sort l) = withInner 1024 (sortDoc l)
+  exprParTo (suc k) ns (const n ls) = withInner 1024 (quoted "@" ⊹ nameDoc n)
+  exprParTo (suc k) ns (app f a) = appPar (exprParTo k ns) (appHead f) (appArgs f (a ∷ []))
+  exprParTo (suc k) ns (pi p n s t b) =
+      let bs : List Binder = binders (pi p n s t b) in chainPar (exprParTo k (pushed bs ns)) bs (length ns) (chainBody b)
+  exprParTo (suc k) ns (lam p n s t b) =
+      let bs : List Binder = binders (lam p n s t b) in chainPar (exprParTo k (pushed bs ns)) bs (length ns) (chainBody b)
+  exprParTo (suc k) ns (letᵉ p n t v b d) =
+      letPar p (suc (length ns)) n (exprParTo k ns t) (exprParTo k ns v) (exprParTo k (shown n ∷ ns) b)
+  exprParTo (suc k) ns (proj n i e) =
+      withInner 1024 (G (under 1024 (exprParTo k ns e)) ⊹ quoted "." ⊹ numberDoc (i + 1))
+  exprParTo (suc k) ns (nat s) = withInner 1024 (textᵐ s)
+  exprParTo (suc k) ns (str s) = withInner 1024 (quoted "\"" ⊹ textᵐ s ⊹ quoted "\"")
 
   unfoldable pub exprPar : NamesInForce → Expr → Parenable
-  exprPar ns e = exprTo (depth e) ns e
+  exprPar ns e = exprParTo (depth e) ns e
 
   -- "Every listing is one outer G."
   unfoldable pub exprDoc : Expr → Marked

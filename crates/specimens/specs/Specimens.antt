@@ -6,7 +6,7 @@ use mathlib.Core.Path.{_≡_, refl}
 use lib.ListN.{length}
 use Rattle.utf8.specs.Quoted.{bytes}
 use Rattle.document.specs.Doc.{rowCount, textBytes}
-use Rattle.document.specs.Walk.{Marked, plain}
+use Rattle.document.specs.Walk.{Marked, unmarked}
 use Rattle.layout.specs.Layout.{pieces}
 use Rattle.layout.specs.Listing.{bytesOf, longestRow}
 use Rattle.pool.specs.Tree.{Name, anonymous, string, Level, paramˡ, Expr, var, sort, const, app, pi, lam, valued}
@@ -18,12 +18,12 @@ use Rattle.specimens.specs.Computing.{computing}
 
 -- the listing of a document at a width
 listing : ℕ → Marked → List ℕ
-listing width m = bytesOf (pieces width (plain m))
+listing width m = bytesOf (pieces width (unmarked m))
 
 -- document rows, text bytes, listing length, longest row
 counts : ℕ → Marked → List ℕ
 counts width m =
-    rowCount (plain m) ∷ length (textBytes (plain m)) ∷ length (listing width m) ∷ longestRow 0 (pieces width (plain m)) ∷ []
+    rowCount (unmarked m) ∷ length (textBytes (unmarked m)) ∷ length (listing width m) ∷ longestRow 0 (pieces width (unmarked m)) ∷ []
 
 name : String → Name
 name s = string anonymous (bytes s)

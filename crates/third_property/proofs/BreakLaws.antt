@@ -4,16 +4,16 @@ use native.Mathlib.Omega.{arith}
 use native.Mathlib.Nat.{add-zero, zero-add}
 use mathlib.Core.Bool.{Bool, true, false, _&&_, _||_, not, cond}
 use mathlib.Core.List.{List, [], _∷_, _++_, append-nil}
-use mathlib.Core.Logic.{_⊎_, inl, inr, ⊎-elim}
+use mathlib.Core.Logic.{⊎-elim}
 use mathlib.Core.Path.{_≡_, refl, sym, ap, ap₂, _∙_, subst}
 use lib.ListN.{length}
 use lib.Dec.{eqb, leb, ltb}
-use borrow.Author.Tests.{le-leb, lt-ltb, le-ltb, lt-leb, ltb-true, ltb-false, eq-eqb, ne-eqb}
+use borrow.Author.Tests.{le-leb, lt-ltb, le-ltb, lt-leb, eq-eqb, ne-eqb}
 use Rattle.document.specs.Doc.{Doc, text, join, break, nest, group, rowCount, hasBreak, firstBreak, through, textBytes}
 use Rattle.document.specs.Rows.{word}
 use Rattle.document.specs.Stored.{ownRow, stored}
-use Rattle.document.proofs.Holds.{Holds, holds-front, holds-to, holds-left, holds-right, holds-at}
-use Rattle.document.proofs.ReadBack.{stored-length, some-row, own, own-words}
+use Rattle.document.proofs.Holds.{Holds, holds-front, holds-left, holds-at}
+use Rattle.document.proofs.ReadBack.{split, own, right-rows}
 use Rattle.layout.specs.declared.cursor.Cursor.{Cursor}
 use Rattle.layout.specs.Layout.{Piece, textᵖ, blankᵖ, newlineᵖ, testᵖ, after, run, placed, fits, layout, start, pieces}
 use Rattle.third_property.specs.Places.{Met, metFrom, met, piecesOf, isPlace, placesIn, isFailure, failed, around, rowsOn, nestOf, allFailed, breakRows, placeAt, breakPlaces}
@@ -163,15 +163,6 @@ module _ (rows : List ℕ) where
     field-is : word rows r 1 ≡ field
     count-is : word rows r 3 ≡ count
 
-  right-rows : (a b : Doc) (t from : ℕ) → Holds rows (from * 7) (stored t (join a b))
-      → Holds rows ((from + rowCount a) * 7) (stored (t + length (textBytes a)) b)
-  unfolding stored
-  right-rows a b t from h =
-      let x = stored-length t a in
-      holds-to (from * 7 + length (stored t a)) _ (omega arith)
-      (holds-left (stored (t + length (textBytes a)) b) (ownRow t (join a b))
-      (holds-right (stored t a) (stored (t + length (textBytes a)) b ++ ownRow t (join a b)) h))
-
   own-nest : (m : ℕ) (d : Doc) (t from : ℕ) → Holds rows (from * 7) (stored t (nest m d)) → Own (from + rowCount d) 3 m (1 + rowCount d)
   unfolding ownRow rowCount
   own-nest m d t from h =
@@ -191,13 +182,6 @@ module _ (rows : List ℕ) where
       let o = own rows (join a b) t from (from + (rowCount a + rowCount b)) (omega arith) h in
       record { kind-is = holds-at _ 0 (omega arith) o; field-is = holds-at _ 1 (omega arith) o; count-is = holds-at _ 3 (omega arith) o }
 
-  split : (i k : ℕ) → (i < k) ⊎ (k ≤ i)
-  split i k = go (ltb i k) refl
-    where
-      go : (b : Bool) → ltb i k ≡ b → (i < k) ⊎ (k ≤ i)
-      go true e = inl (ltb-true i k e)
-      go false e = inr (ltb-false i k e)
-
   -- the subtree of each row of a stored document starts in the document
   subtree-inside : (d : Doc) (t from i : ℕ) → Holds rows (from * 7) (stored t d) → from ≤ i → i < from + rowCount d → from + word rows i 3 ≤ i + 1
   unfolding stored rowCount ownRow
@@ -210,7 +194,7 @@ module _ (rows : List ℕ) where
       (λ (x : from + rowCount a ≤ i).
       ⊎-elim
       (λ (y : i < from + rowCount a + rowCount b).
-      let z = subtree-inside b (t + length (textBytes a)) (from + rowCount a) i (right-rows a b t from h) x y in omega arith)
+      let z = subtree-inside b (t + length (textBytes a)) (from + rowCount a) i (right-rows rows a b t from h) x y in omega arith)
       (λ (y : from + rowCount a + rowCount b ≤ i).
       let e : i ≡ from + (rowCount a + rowCount b) = omega arith in
       let w = own-join a b t from h .count-is in
@@ -323,7 +307,7 @@ module _ (rows : List ℕ) where
             record { kind-is = o .kind-is; field-is = o .field-is; count-is = omega arith }
 
         right : Holds rows ((from + rowCount a) * 7) (stored (t + length (textBytes a)) b)
-        right = right-rows a b t from h
+        right = right-rows rows a b t from h
 
         -- the rows of both children, and the own one, which is a join
         nests : (i : ℕ) → from ≤ i → i < from + (rowCount a + rowCount b)
@@ -433,7 +417,7 @@ module _ (rows : List ℕ) where
         fs i p (omega arith) ∙ failed-append as-is bs-is i
         ∙ ap (λ (z : Bool). failed as-is i || z) (failed-outside w b (from + x) n flat next m i (λ u v. omega arith))
         ∙ or-false (failed as-is i)))
-        (places-are b (t + length (textBytes a)) (from + x) n flat next m (right-rows a b t from h)
+        (places-are b (t + length (textBytes a)) (from + x) n flat next m (right-rows rows a b t from h)
         (λ i p q.
         fs i (omega arith) (omega arith) ∙ failed-append as-is bs-is i
         ∙ ap (λ (z : Bool). z || failed bs-is i) (failed-outside w a from n flat mid c i (λ u v. omega arith))))

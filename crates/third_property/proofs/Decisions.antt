@@ -8,14 +8,14 @@ use lib.Dec.{ltb}
 use lib.ListN.{length}
 use borrow.Author.Tests.{lt-ltb, le-ltb, ltb-true, ltb-false}
 use Rattle.document.specs.Doc.{rowCount, textBytes}
-use Rattle.document.specs.Walk.{plain, Event, events, Progress, going, stopped, walk}
+use Rattle.document.specs.Walk.{unmarked, Event, events, Progress, going, stopped, walk}
 use Rattle.layout.specs.Listing.{bytesOf}
 use Rattle.layout.specs.Call.{countsOf}
 use Rattle.layout.specs.declared.Counts.{Counts}
 use Rattle.lister.specs.declared.Answer.{Answer}
 use Rattle.lister.specs.declared.Answer.the-variants.{Done, Listing}
 use Rattle.lister.specs.Answers.{number, place, stopAnswer}
-use Rattle.lister.specs.Prints.{Outcome, sizesOk, afterWalk, cleared}
+use Rattle.lister.specs.Prints.{Outcome, sizesOk, afterWalk, documentCleared}
 use Rattle.lister.proofs.NumberLaws.{names, document, row-area, text-area, refusal-reports}
 use Rattle.third_property.specs.ThirdProperty.{Print, Run, Returned, Rooted, Succeeded, defined, walked, laid}
 use Rattle.third_property.specs.Success.{rowEvents, byteEvents, Fits, Refused, too-many-names, byte-past-limit, text-area-full, row-past-limit}
@@ -47,10 +47,10 @@ module _ {k : Print} (r : Run k) (returned : Returned r) (rooted : Rooted r) (ok
   T = length (r .lent .text)
 
   abbrev rows : ℕ
-  rows = rowCount (plain (defined r))
+  rows = rowCount (unmarked (defined r))
 
   abbrev bytes : ℕ
-  bytes = length (textBytes (plain (defined r)))
+  bytes = length (textBytes (unmarked (defined r)))
 
   abbrev size : ℕ
   size = length (bytesOf (laid r))
@@ -84,12 +84,12 @@ module _ {k : Print} (r : Run k) (returned : Returned r) (rooted : Rooted r) (ok
 
   -- an event is refused: the walk stops there
   stopped-at : (n at : ℕ) → FirstRefused R T (events (defined r)) n at → Reports r n at
-  unfolding walk afterWalk cleared
+  unfolding walk afterWalk documentCleared
   stopped-at n at f =
       let a : r .answer ≡ stopAnswer n at =
       ap (λ (o : Outcome). o .answer)
       (walk-is r returned rooted ok
-      ∙ ap (λ (p : Progress). afterWalk p (plain (defined r)) (r .width) (r .lent)) (first-stops R T (events (defined r)) n at f)) in
+      ∙ ap (λ (p : Progress). afterWalk p (unmarked (defined r)) (r .width) (r .lent)) (first-stops R T (events (defined r)) n at f)) in
       let s = stop-reports (f .refused) in
       (ap number a ∙ s .0, ap place a ∙ s .1)
 

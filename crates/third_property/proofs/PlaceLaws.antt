@@ -11,7 +11,7 @@ use Rattle.basics.proofs.Booleans.{both-ways}
 use Rattle.document.specs.Walk.{Marked, textᵐ, joinᵐ, breakᵐ, nestᵐ, groupᵐ, names}
 use Rattle.pool.specs.Tree.{Name, Level, Expr, var, sort, const, app, pi, lam, letᵉ, proj, nat, str, Declar, typed, valued, lift, occurs, same, depth, forget, forgetᵈ}
 use Rattle.pool.proofs.TreeLaws.{lift-forgets, forget-occurs, forget-depth, forget-twice, same-forgets, forgets-same}
-use Rattle.pieces.specs.Docs.{_⊹_, quoted, line, G, NG, Parenable, withInner, under, tile, tileFrom, number}
+use Rattle.pieces.specs.Docs.{_⊹_, quoted, line, G, NG, Parenable, withInner, under, tile, tileFrom, numberDoc}
 use Rattle.names.specs.Names.{nameDoc, isAnonymous}
 use Rattle.binders.specs.Runs.{runsTo, runs, leading, following}
 use Rattle.binders.specs.Binders.{
@@ -36,8 +36,8 @@ use Rattle.binders.specs.Binders.{
   runsPar,
   bindersPar,
 }
-use Rattle.pretty_printer.specs.Exprs.{appHead, appArgs, appPar, chainPar, letPar, exprTo, exprPar, exprDoc}
-use Rattle.declarations.specs.Declars.{word, info, canLeave, taken, Taken, defRest, mainDef, axiomRest, mainAxiom, declarDoc}
+use Rattle.pretty_printer.specs.Exprs.{appHead, appArgs, appPar, chainPar, letPar, exprParTo, exprPar, exprDoc}
+use Rattle.declarations.specs.Declars.{keyword, info, canLeave, taken, Taken, defRest, mainDef, axiomRest, mainAxiom, declarDoc}
 use Rattle.binders.specs.Options.{PpOptions}
 use Rattle.binders.specs.Shown.{NamesInForce}
 
@@ -342,17 +342,17 @@ args-forget (str s) others = refl
 
 module _ (opts : PpOptions) where
   -- a chain whose binders are `bs`, under any bound
-  chain-alike : (k : ℕ) → ((ns : NamesInForce) (e : Expr) → Alike (exprTo opts k ns e) (exprTo opts k ns (forget e)))
+  chain-alike : (k : ℕ) → ((ns : NamesInForce) (e : Expr) → Alike (exprParTo opts k ns e) (exprParTo opts k ns (forget e)))
       → (ns : NamesInForce) (bs cs : List Binder) (body other : Expr) → cs ≡ map plainᵇ bs → other ≡ forget body
-      → Alike (chainPar opts (exprTo opts k (pushed bs ns)) bs (length ns) body) (chainPar opts (exprTo opts k (pushed cs ns)) cs (length ns) other)
+      → Alike (chainPar opts (exprParTo opts k (pushed bs ns)) bs (length ns) body) (chainPar opts (exprParTo opts k (pushed cs ns)) cs (length ns) other)
   chain-alike k below ns bs cs body other e f =
-      subst (λ (x : List Binder). Alike left (chainPar opts (exprTo opts k (pushed x ns)) x (length ns) other)) (sym e)
-      (subst (λ (x : Expr). Alike left (chainPar opts (exprTo opts k (pushed (map plainᵇ bs) ns)) (map plainᵇ bs) (length ns) x)) (sym f)
-      (subst (λ (x : NamesInForce). Alike left (chainPar opts (exprTo opts k x) (map plainᵇ bs) (length ns) (forget body))) (sym (pushed-plain bs ns))
-      (alike-chain opts (exprTo opts k (pushed bs ns)) (below (pushed bs ns)) bs (length ns) body)))
+      subst (λ (x : List Binder). Alike left (chainPar opts (exprParTo opts k (pushed x ns)) x (length ns) other)) (sym e)
+      (subst (λ (x : Expr). Alike left (chainPar opts (exprParTo opts k (pushed (map plainᵇ bs) ns)) (map plainᵇ bs) (length ns) x)) (sym f)
+      (subst (λ (x : NamesInForce). Alike left (chainPar opts (exprParTo opts k x) (map plainᵇ bs) (length ns) (forget body))) (sym (pushed-plain bs ns))
+      (alike-chain opts (exprParTo opts k (pushed bs ns)) (below (pushed bs ns)) bs (length ns) body)))
     where
       left : Parenable
-      left = chainPar opts (exprTo opts k (pushed bs ns)) bs (length ns) body
+      left = chainPar opts (exprParTo opts k (pushed bs ns)) bs (length ns) body
 
   alike-let : (p q c : ℕ) (n : Name) (t v b t′ v′ b′ : Parenable) → Alike t t′ → Alike v v′ → Alike b b′ → Alike (letPar opts p c n t v b) (letPar opts q c n t′ v′ b′)
   unfolding letPar
@@ -374,14 +374,14 @@ module _ (opts : PpOptions) where
         inner = refl;
       }
 
-  alike-to : (k : ℕ) (ns : NamesInForce) (e : Expr) → Alike (exprTo opts k ns e) (exprTo opts k ns (forget e))
-  unfolding exprTo forget
+  alike-to : (k : ℕ) (ns : NamesInForce) (e : Expr) → Alike (exprParTo opts k ns e) (exprParTo opts k ns (forget e))
+  unfolding exprParTo forget
   alike-to zero ns e = record { doc = itself; inner = refl }
   alike-to (suc k) ns (var i) = record { doc = itself; inner = refl }
   alike-to (suc k) ns (sort l) = record { doc = itself; inner = refl }
   alike-to (suc k) ns (const n ls) = record { doc = itself; inner = refl }
   alike-to (suc k) ns (app f a) =
-      let pp : Expr → Parenable = exprTo opts k ns in
+      let pp : Expr → Parenable = exprParTo opts k ns in
       subst (λ (x : Expr). Alike (appPar opts pp (appHead f) (appArgs f (a ∷ []))) (appPar opts pp x (appArgs (forget f) (forget a ∷ [])))) (sym (head-forget f))
       (subst (λ (x : List Expr). Alike (appPar opts pp (appHead f) (appArgs f (a ∷ []))) (appPar opts pp (forget (appHead f)) x)) (sym (args-forget f (a ∷ [])))
       (alike-app opts pp (alike-to k ns) (appHead f) (appArgs f (a ∷ []))))
@@ -390,8 +390,8 @@ module _ (opts : PpOptions) where
   alike-to (suc k) ns (lam p n s t b) =
       chain-alike k (alike-to k) ns (binders (lam p n s t b)) (binders (lam 0 n s (forget t) (forget b))) (chainBody b) (chainBody (forget b)) (binders-forget (lam p n s t b)) (body-forget b)
   alike-to (suc k) ns (letᵉ p n t v b d) =
-      alike-let p 0 (suc (length ns)) n (exprTo opts k ns t) (exprTo opts k ns v) (exprTo opts k (n ∷ ns) b) (exprTo opts k ns (forget t))
-      (exprTo opts k ns (forget v)) (exprTo opts k (n ∷ ns) (forget b))
+      alike-let p 0 (suc (length ns)) n (exprParTo opts k ns t) (exprParTo opts k ns v) (exprParTo opts k (n ∷ ns) b) (exprParTo opts k ns (forget t))
+      (exprParTo opts k ns (forget v)) (exprParTo opts k (n ∷ ns) (forget b))
       (alike-to k ns t) (alike-to k ns v) (alike-to k (n ∷ ns) b)
   alike-to (suc k) ns (proj n i e) =
       record { doc = like-join (like-join (like-group (like-under 1024 (alike-to k ns e))) itself) itself; inner = refl }
@@ -401,7 +401,7 @@ module _ (opts : PpOptions) where
   alike-expr : (ns : NamesInForce) (e : Expr) → Alike (exprPar opts ns e) (exprPar opts ns (forget e))
   unfolding exprPar
   alike-expr ns e =
-      subst (λ (k : ℕ). Alike (exprTo opts (depth e) ns e) (exprTo opts k ns (forget e))) (sym (forget-depth e)) (alike-to (depth e) ns e)
+      subst (λ (k : ℕ). Alike (exprParTo opts (depth e) ns e) (exprParTo opts k ns (forget e))) (sym (forget-depth e)) (alike-to (depth e) ns e)
 
   expr-unplaced : (e : Expr) → Like (exprDoc opts e) (exprDoc opts (forget e))
   unfolding exprDoc
@@ -527,7 +527,7 @@ module _ (opts : PpOptions) where
   def-unplaced kind name levels type value =
       let bs : List Binder = binders type in
       let t : Taken = taken bs value 0 in
-      let front : Marked = word kind ⊹ quoted " " ⊹ info name levels ⊹ quoted " " in
+      let front : Marked = keyword kind ⊹ quoted " " ⊹ info name levels ⊹ quoted " " in
       let whole : NamesInForce → List Binder → Expr → Taken → Marked =
       (λ ns cs body u. front ⊹ defPart opts (exprPar opts ns) cs body u ⊹ valuePart opts (exprPar opts ns) cs u) in
       let left : Marked = whole (pushed bs []) bs (chainBody type) t in

@@ -8,7 +8,7 @@ use lib.Dec.{ltb, leb}
 use lib.ListN.{length, length-append}
 use borrow.Author.Tests.{lt-ltb, le-ltb, le-leb, lt-leb, ltb-true, ltb-false, leb-true, leb-false}
 use Rattle.document.specs.Doc.{Doc, rowCount, textBytes}
-use Rattle.document.specs.Walk.{Marked, textᵐ, joinᵐ, breakᵐ, nestᵐ, groupᵐ, names, plain, Event, byte, row, named, textEvents, events}
+use Rattle.document.specs.Walk.{Marked, textᵐ, joinᵐ, breakᵐ, nestᵐ, groupᵐ, names, unmarked, Event, byte, row, named, textEvents, events}
 use Rattle.document.specs.Walk.{Progress, going, stopped, step, steps, walk}
 use Rattle.document.proofs.Steps.{steps-append}
 use Rattle.third_property.specs.Success.{rowEvents, byteEvents, NamesFit, Fits, Refused, too-many-names, byte-past-limit, text-area-full}
@@ -40,8 +40,8 @@ unfolding byteEvents textEvents
 text-bytes [] = refl
 text-bytes (b ∷ s) = ap suc (text-bytes s)
 
-pub rows-are : (m : Marked) → rowEvents (events m) ≡ rowCount (plain m)
-unfolding events plain rowCount rowEvents
+pub rows-are : (m : Marked) → rowEvents (events m) ≡ rowCount (unmarked m)
+unfolding events unmarked rowCount rowEvents
 rows-are (textᵐ s) = text-row s
 rows-are (joinᵐ a b) =
     let e = rows-append (events a) (events b ++ (row ∷ [])) in
@@ -52,13 +52,13 @@ rows-are (nestᵐ n d) = let e = rows-append (events d) (row ∷ []) in omega (a
 rows-are (groupᵐ d) = let e = rows-append (events d) (row ∷ []) in omega (arith, rows-are d)
 rows-are (names p c d) = rows-are d
 
-pub bytes-are : (m : Marked) → byteEvents (events m) ≡ length (textBytes (plain m))
-unfolding events plain textBytes byteEvents
+pub bytes-are : (m : Marked) → byteEvents (events m) ≡ length (textBytes (unmarked m))
+unfolding events unmarked textBytes byteEvents
 bytes-are (textᵐ s) = text-bytes s
 bytes-are (joinᵐ a b) =
     let e = bytes-append (events a) (events b ++ (row ∷ [])) in
     let f = bytes-append (events b) (row ∷ []) in
-    let g = length-append (textBytes (plain a)) (textBytes (plain b)) in
+    let g = length-append (textBytes (unmarked a)) (textBytes (unmarked b)) in
     omega (arith, bytes-are a, bytes-are b)
 bytes-are (breakᵐ k) = refl
 bytes-are (nestᵐ n d) = let e = bytes-append (events d) (row ∷ []) in omega (arith, bytes-are d)

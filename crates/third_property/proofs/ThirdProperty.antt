@@ -9,7 +9,7 @@ use lib.ListN.{length, take, replicate}
 use borrow.Author.Tests.{eq-eqb, lt-ltb, ltb-true, ltb-false, leb-true}
 use Rattle.document.specs.Doc.{Doc, rowCount, textBytes}
 use Rattle.document.specs.Stored.{stored, Fine}
-use Rattle.document.specs.Walk.{plain, Progress, going, stopped, walk}
+use Rattle.document.specs.Walk.{unmarked, Progress, going, stopped, walk}
 use Rattle.document.specs.Sink.{emit}
 use Rattle.document.specs.Sink as sink
 use Rattle.document.proofs.ReadBack.{stored-reads-back}
@@ -34,8 +34,8 @@ use Rattle.lister.specs.declared.Answer.{Answer}
 use Rattle.lister.specs.declared.Answer.the-variants.{Done, Pool as Answer·Pool, Root, Size, Names, Document, RowArea, TextArea, Listing}
 use Rattle.lister.specs.Answers.{number, place, stopAnswer, ofLaid}
 use Rattle.lister.specs.Source.{Source, poolOf, judged, isAccepted}
-use Rattle.lister.specs.Prints.{Areas, Outcome, untouched, cleared, filled, listed, afterWalk, printDoc, sizesOk, checked, printExpr, printDeclar}
-use Rattle.third_property.specs.ThirdProperty.{Print, expression, declaration, call, rootsIn, rootDoc, SameTree, Run, Returned, Rooted, Succeeded, listing, document, Taken}
+use Rattle.lister.specs.Prints.{Areas, Outcome, untouched, documentCleared, filled, documentListed, afterWalk, printDoc, sizesOk, checked, printExpr, printDeclar}
+use Rattle.third_property.specs.ThirdProperty.{Print, expression, declaration, call, rootsIn, rootDoc, SameTree, Run, Returned, Rooted, Succeeded, listing, document, Premises}
 use Rattle.third_property.specs.ThirdProperty.{SameCounts, EndAlike, refused, succeeded, defined, walked, laid, reported, Stands, AsDefined, sizes, stops, short, lists}
 use Rattle.third_property.specs.ThirdProperty.{SameDocument, PutBack, metIn, StartsRows, HoldsWidth, OneRun, TwoRuns, ThirdProperty}
 use Rattle.third_property.specs.Claims.{rowsIn, Within}
@@ -74,7 +74,7 @@ unfolding call printExpr printDeclar
 call-done expression s root indent width areas h = checked-done (judged s) (ltb root (E (s .words))) (sizesOk indent width) _ areas h
 call-done declaration s root indent width areas h = checked-done (judged s) (ltb root (D (s .words))) (sizesOk indent width) _ areas h
 
-root-fine : (k : Print) (indent : ℕ) (p : Pool) (root : ℕ) → indent ≤ 64 → Fine (plain (rootDoc k indent p root))
+root-fine : (k : Print) (indent : ℕ) (p : Pool) (root : ℕ) → indent ≤ 64 → Fine (unmarked (rootDoc k indent p root))
 unfolding rootDoc
 root-fine expression indent p root small = expr-fine (indented indent) small (exprAt p root)
 root-fine declaration indent p root small = declar-fine (indented indent) small (declarAt p root)
@@ -130,7 +130,7 @@ module _ {k : Print} (r : Run k) (returned : Returned r) (rooted : Rooted r) whe
   outcome = record { answer = r .answer; areas = r .left }
 
   abbrev d : Doc
-  d = plain (defined r)
+  d = unmarked (defined r)
 
   rooted-is : outcome ≡ cond (sizesOk (r .indent) (r .width)) (printDoc (defined r) (r .width) (r .lent)) (untouched Size (r .lent))
   rooted-is = returned ∙ rooted-call k (r .source) (r .root) (r .indent) (r .width) (r .lent) (rooted .accepted) (rooted .root-there)
@@ -143,18 +143,18 @@ module _ {k : Print} (r : Run k) (returned : Returned r) (rooted : Rooted r) whe
   walk-is e = rooted-is ∙ ap (λ (b : Bool). cond b (printDoc (defined r) (r .width) (r .lent)) (untouched Size (r .lent))) e
 
   module _ (ok : sizesOk (r .indent) (r .width) ≡ true) (rows text : ℕ) (went : walked r ≡ going rows text) where
-    listed-is : outcome ≡ listed rows text (r .width) d (r .lent)
+    listed-is : outcome ≡ documentListed rows text (r .width) d (r .lent)
     unfolding afterWalk
     listed-is = walk-is ok ∙ ap (λ (p : Progress). afterWalk p d (r .width) (r .lent)) went
 
     stands : Stands r
-    unfolding listed layout.listed
+    unfolding documentListed layout.listed
     stands =
         let e = ap (λ (o : Outcome). o .areas) listed-is in
         record { rows = ap (λ (a : Areas). a .rows) e; text = ap (λ (a : Areas). a .text) e; listing = ap (λ (a : Areas). a .listing) e }
 
     pub answer-is : r .answer ≡ cond (ltb (length (r .lent .listing)) (length (bytesOf (laid r)))) Listing (Done (countsOf rows text (laid r)))
-    unfolding listed layout.listed
+    unfolding documentListed layout.listed
     answer-is =
         ap (λ (o : Outcome). o .answer) listed-is
         ∙ listed-answer (ltb (length (r .lent .listing)) (length (bytesOf (laid r)))) (countsOf rows text (laid r))
@@ -189,9 +189,9 @@ module _ {k : Print} (r : Run k) (returned : Returned r) (rooted : Rooted r) whe
         by false e a = done (ltb-false (length (r .lent .listing)) (length (bytesOf (laid r))) e) a
 
   after-stop : sizesOk (r .indent) (r .width) ≡ true → (n at : ℕ) → walked r ≡ stopped n at → AsDefined r
-  unfolding afterWalk cleared
+  unfolding afterWalk documentCleared
   after-stop ok n at e =
-      let o : outcome ≡ cleared (stopAnswer n at) (r .lent) = walk-is ok ∙ ap (λ (p : Progress). afterWalk p d (r .width) (r .lent)) e in
+      let o : outcome ≡ documentCleared (stopAnswer n at) (r .lent) = walk-is ok ∙ ap (λ (p : Progress). afterWalk p d (r .width) (r .lent)) e in
       let a = ap (λ (x : Outcome). x .areas) o in
       stops n at ok e (ap (λ (x : Outcome). x .answer) o) (ap (λ (x : Areas). x .rows) a) (ap (λ (x : Areas). x .text) a) (ap (λ (x : Areas). x .listing) a)
 
@@ -219,7 +219,7 @@ refused-not-done x n h z = omega arith
 record Listed {k : Print} (r : Run k) (s : Succeeded r) : Type 0 where
   stands : Stands r
   listing-is : listing r s ≡ bytesOf (laid r)
-  document-is : document r s ≡ plain (defined r)
+  document-is : document r s ≡ unmarked (defined r)
   counts-are : SameCounts (s .counts) (reported r)
 
 module _ {k : Print} (r : Run k) (returned : Returned r) (unrefused : number (r .answer) ≡ 0) where
@@ -275,7 +275,7 @@ module _ {k : Print} (r : Run k) (returned : Returned r) (s : Succeeded r) where
       l .listing-is ∙ ap (λ (x : Doc). bytesOf (pieces (r .width) x)) (sym (l .document-is) ∙ e)
 
   put-back-in : (d : Doc) → document r s ≡ d → PutBack r s d
-  put-back-in d e = record { listed = listed-in d e; restores = blanks-put-back (r .width) d }
+  put-back-in d e = record { listing-is = listed-in d e; restores = blanks-put-back (r .width) d }
 
   -- the layout's pieces, as they are met
   pieces-met : piecesOf (metIn r s) ≡ pieces (r .width) (document r s)
@@ -296,7 +296,7 @@ module _ {k : Print} (r : Run k) (returned : Returned r) (s : Succeeded r) where
       let left = rows-left in
       record {
         pieces-are = pieces-met;
-        listed = listed-in (document r s) refl ∙ ap bytesOf (sym pieces-met);
+        listing-is = listed-in (document r s) refl ∙ ap bytesOf (sym pieces-met);
         exactly =
             places-of-rows (r .width) (document r s) (replicate (length (r .lent .rows) - length (stored 0 (document r s))) 0)
             ∙ ap₂ (breakPlaces (failed (metIn r s))) (sym (left .0)) (sym (left .1));
@@ -305,7 +305,7 @@ module _ {k : Print} (r : Run k) (returned : Returned r) (s : Succeeded r) where
   holds : HoldsWidth r s
   holds =
       record {
-        listed = listed-in (document r s) refl ∙ ap bytesOf (sym pieces-met) ∙ sym (rows-joined (piecesOf (metIn r s)));
+        listing-is = listed-in (document r s) refl ∙ ap bytesOf (sym pieces-met) ∙ sym (rows-joined (piecesOf (metIn r s)));
         within = subst (λ (ps : List Piece). Within (r .width) (rowsIn ps)) (sym pieces-met) (held-rows-within-width (r .width) (document r s));
       }
 
@@ -321,13 +321,13 @@ counts-through h e k =
       longest = h .longest ∙ ap (λ (c : Counts). c .longest) e ∙ sym (k .longest);
     }
 
-module _ {k : Print} (a b : Run k) (returned : Returned a) (returned′ : Returned b) (taken : Taken a b) where
+module _ {k : Print} (a b : Run k) (returned : Returned a) (returned′ : Returned b) (taken : Premises a b) where
   docs-like : Like (defined a) (defined b)
   docs-like =
       subst (λ (i : ℕ). Like (defined a) (rootDoc k i (poolOf (b .source)) (b .root))) (taken .indent)
       (roots-like k (a .indent) (poolOf (a .source)) (a .root) (poolOf (b .source)) (b .root) (taken .tree))
 
-  same-doc : plain (defined a) ≡ plain (defined b)
+  same-doc : unmarked (defined a) ≡ unmarked (defined b)
   same-doc = plain-like (defined a) (defined b) docs-like
 
   walks : Near (walked a) (walked b)
@@ -349,10 +349,10 @@ module _ {k : Print} (a b : Run k) (returned : Returned a) (returned′ : Return
         byte-count = x .counts-are .text ∙ ap (λ (d : Doc). length (textBytes d)) same-doc ∙ sym (y .counts-are .text);
         rows =
             x .stands .rows ∙ ap (λ (d : Doc). filled (a .lent .rows) (stored 0 d)) same-doc
-            ∙ filled-same (a .lent .rows) (b .lent .rows) (stored 0 (plain (defined b))) (taken .rows) ∙ sym (y .stands .rows);
+            ∙ filled-same (a .lent .rows) (b .lent .rows) (stored 0 (unmarked (defined b))) (taken .rows) ∙ sym (y .stands .rows);
         bytes =
             x .stands .text ∙ ap (λ (d : Doc). filled (a .lent .text) (textBytes d)) same-doc
-            ∙ filled-same (a .lent .text) (b .lent .text) (textBytes (plain (defined b))) (taken .text) ∙ sym (y .stands .text);
+            ∙ filled-same (a .lent .text) (b .lent .text) (textBytes (unmarked (defined b))) (taken .text) ∙ sym (y .stands .text);
         shared = x .document-is ∙ same-doc ∙ sym (y .document-is);
       }
 

@@ -11,7 +11,7 @@ use Rattle.lister.specs.Answers.{number, place}
 use Rattle.lister.specs.Prints.{Areas}
 use Rattle.third_property.specs.Claims.{Row, rowsFrom, rowsIn}
 use Rattle.third_property.specs.Places.{Met, metFrom, piecesOf, placesIn}
-use Rattle.third_property.specs.ThirdProperty.{Print, expression, declaration, call, SameTree, Run, runOf, Succeeded, Taken, metIn, TwoRuns}
+use Rattle.third_property.specs.ThirdProperty.{Print, expression, declaration, call, SameTree, Run, runOf, Succeeded, Premises, metIn, TwoRuns}
 use Rattle.third_property.specs.ThirdProperty.{EndAlike, AsDefined, SameDocument, PutBack, StartsRows, HoldsWidth, document}
 use Rattle.third_property.proofs.ThirdProperty.{third-property}
 use Rattle.specimens.specs.Computing.{computing}
@@ -50,7 +50,7 @@ pub second-succeeds : Succeeded second
 unfolding computing call
 second-succeeds = record { counts = record { rows = 13; text = 6; length = 7; lines = 2; longest = 5; tests = 3 }; answered = refl }
 
-taken : Taken first second
+taken : Premises first second
 unfolding computing SameTree
 taken =
     record {
@@ -63,7 +63,7 @@ taken =
       listing = refl;
     }
 
-taken-wide : Taken first wide
+taken-wide : Premises first wide
 unfolding computing SameTree
 taken-wide =
     record {
@@ -124,7 +124,7 @@ room = record { rows = replicate 1400 0; text = replicate 200 0; listing = [] }
 abbrev pub deep : ℕ → Run declaration
 deep before = runOf declaration (record { bytes = []; words = chains before }) 0 2 80 room
 
-taken-deep : Taken (deep 0) (deep 1)
+taken-deep : Premises (deep 0) (deep 1)
 unfolding computing SameTree chains pis overPis
 taken-deep =
     record {

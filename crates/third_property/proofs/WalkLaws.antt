@@ -5,13 +5,13 @@ use mathlib.Core.List.{List, [], _∷_, _++_, map}
 use mathlib.Core.Path.{_≡_, refl, sym, ap, ap₂, _∙_, subst}
 use lib.Dec.{leb}
 use Rattle.document.specs.Doc.{join, nest, group}
-use Rattle.document.specs.Walk.{Marked, textᵐ, joinᵐ, breakᵐ, nestᵐ, groupᵐ, names, plain, Event, byte, row, named, textEvents, events, Progress, going, stopped, step, steps, walk}
+use Rattle.document.specs.Walk.{Marked, textᵐ, joinᵐ, breakᵐ, nestᵐ, groupᵐ, names, unmarked, Event, byte, row, named, textEvents, events, Progress, going, stopped, step, steps, walk}
 use Rattle.third_property.proofs.PlaceLaws.{bare, Like}
 
 -- ---- documents
 
-plain-bare : (m : Marked) → plain (bare m) ≡ plain m
-unfolding plain bare
+plain-bare : (m : Marked) → unmarked (bare m) ≡ unmarked m
+unfolding unmarked bare
 plain-bare (textᵐ s) = refl
 plain-bare (joinᵐ a b) = ap₂ join (plain-bare a) (plain-bare b)
 plain-bare (breakᵐ k) = refl
@@ -19,8 +19,8 @@ plain-bare (nestᵐ n d) = ap (nest n) (plain-bare d)
 plain-bare (groupᵐ d) = ap group (plain-bare d)
 plain-bare (names place count d) = plain-bare d
 
-pub plain-like : (m n : Marked) → Like m n → plain m ≡ plain n
-plain-like m n h = sym (plain-bare m) ∙ ap plain (h .bared) ∙ plain-bare n
+pub plain-like : (m n : Marked) → Like m n → unmarked m ≡ unmarked n
+plain-like m n h = sym (plain-bare m) ∙ ap unmarked (h .bared) ∙ plain-bare n
 
 -- ---- events
 

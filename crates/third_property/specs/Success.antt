@@ -4,7 +4,7 @@ use mathlib.Core.List.{List, [], _∷_, _++_}
 use mathlib.Core.Path.{_≡_}
 use lib.ListN.{length}
 use Rattle.document.specs.Doc.{rowCount, textBytes}
-use Rattle.document.specs.Walk.{plain, Event, byte, row, named, events}
+use Rattle.document.specs.Walk.{unmarked, Event, byte, row, named, events}
 use Rattle.layout.specs.Listing.{bytesOf}
 use Rattle.lister.specs.Answers.{number, place}
 use Rattle.third_property.specs.ThirdProperty.{Print, Run, Succeeded, defined, laid}
@@ -64,7 +64,7 @@ pub record FirstRefused (R T : ℕ) (es : List Event) (number place : ℕ) : Typ
 -- the document that 01 defines for a run's root fits
 pub record DocumentFits {k : Print} (r : Run k) : Type 0 where
   pub fits :
-      Fits (length (r .lent .rows)) (length (r .lent .text)) (rowCount (plain (defined r))) (length (textBytes (plain (defined r))))
+      Fits (length (r .lent .rows)) (length (r .lent .text)) (rowCount (unmarked (defined r))) (length (textBytes (unmarked (defined r))))
   pub names : NamesFit (events (defined r))
 
 -- "Refused calls report only number and place"

@@ -6,7 +6,7 @@ use mathlib.Core.Path.{_≡_, refl}
 use lib.ListN.{length, take, replicate}
 use Rattle.document.specs.Doc.{Doc, rowCount, textBytes}
 use Rattle.document.specs.Stored.{stored}
-use Rattle.document.specs.Walk.{Marked, plain, Progress, going, stopped, walk}
+use Rattle.document.specs.Walk.{Marked, unmarked, Progress, going, stopped, walk}
 use Rattle.layout.specs.Layout.{Piece, pieces}
 use Rattle.layout.specs.Listing.{bytesOf}
 use Rattle.layout.specs.Paint.{paint}
@@ -101,7 +101,7 @@ abbrev pub document : {k : Print} (r : Run k) → Succeeded r → Doc
 document r s = docOf (r .left .rows) (s .counts .rows) (r .left .text)
 
 -- "Take any two accepted pools, roots in them that unfold to the same tree, one indent, and lent areas of equal lengths."
-pub record Taken {k : Print} (a b : Run k) : Type 0 where
+pub record Premises {k : Print} (a b : Run k) : Type 0 where
   pub first : Rooted a
   pub second : Rooted b
   pub tree : SameTree k (poolOf (a .source)) (a .root) (poolOf (b .source)) (b .root)
@@ -137,16 +137,16 @@ walked r = walk (length (r .lent .rows)) (length (r .lent .text)) (defined r)
 
 -- the pieces of that document
 abbrev pub laid : {k : Print} → Run k → List Piece
-laid r = pieces (r .width) (plain (defined r))
+laid r = pieces (r .width) (unmarked (defined r))
 
 -- what is reported of it
 abbrev pub reported : {k : Print} → Run k → Counts
-reported r = countsOf (rowCount (plain (defined r))) (length (textBytes (plain (defined r)))) (laid r)
+reported r = countsOf (rowCount (unmarked (defined r))) (length (textBytes (unmarked (defined r)))) (laid r)
 
 -- that document stands in the areas, with zeros after it, and in the listing area as much of its listing as fits
 pub record Stands {k : Print} (r : Run k) : Type 0 where
-  pub rows : r .left .rows ≡ filled (r .lent .rows) (stored 0 (plain (defined r)))
-  pub text : r .left .text ≡ filled (r .lent .text) (textBytes (plain (defined r)))
+  pub rows : r .left .rows ≡ filled (r .lent .rows) (stored 0 (unmarked (defined r)))
+  pub text : r .left .text ≡ filled (r .lent .text) (textBytes (unmarked (defined r)))
   pub listing : r .left .listing ≡ paint (r .lent .listing) 0 (bytesOf (laid r))
 
 -- "Each refusal, document and listing, and each count but the fit tests, is the one 01 defines for its run's root."
@@ -163,7 +163,7 @@ pub data AsDefined {k : Print} (r : Run k) : Type 0 where
   -- none
   lists : (s : Succeeded r) → sizesOk (r .indent) (r .width) ≡ true → walked r ≡ going (s .counts .rows) (s .counts .text)
       → length (bytesOf (laid r)) ≤ length (r .lent .listing) → Stands r → listing r s ≡ bytesOf (laid r)
-      → document r s ≡ plain (defined r) → SameCounts (s .counts) (reported r) → AsDefined r
+      → document r s ≡ unmarked (defined r) → SameCounts (s .counts) (reported r) → AsDefined r
 
 -- "when both runs succeed they leave the same document, row for row and byte for byte, so they share all texts and break places in order"
 pub record SameDocument {k : Print} (a b : Run k) (s : Succeeded a) (t : Succeeded b) : Type 0 where
@@ -175,7 +175,7 @@ pub record SameDocument {k : Print} (a b : Run k) (s : Succeeded a) (t : Succeed
 
 -- "Put each broken place's newline and indentation back to its blank, and both listings are that document's texts and blanks in order."
 pub record PutBack {k : Print} (r : Run k) (s : Succeeded r) (d : Doc) : Type 0 where
-  pub listed : listing r s ≡ bytesOf (pieces (r .width) d)
+  pub listing-is : listing r s ≡ bytesOf (pieces (r .width) d)
   pub restores : restored (pieces (r .width) d) ≡ inOrder d
 
 -- what layout meets in the document that a run which succeeds leaves, row by row
@@ -185,12 +185,12 @@ metIn r s = met (r .width) (document r s)
 -- "a break place starts a row exactly when every group around it failed 01's fit test": of the rows that the run leaves
 pub record StartsRows {k : Print} (r : Run k) (s : Succeeded r) : Type 0 where
   pub pieces-are : piecesOf (metIn r s) ≡ pieces (r .width) (document r s)
-  pub listed : listing r s ≡ bytesOf (piecesOf (metIn r s))
+  pub listing-is : listing r s ≡ bytesOf (piecesOf (metIn r s))
   pub exactly : placesIn (metIn r s) ≡ breakPlaces (failed (metIn r s)) (r .left .rows) (s .counts .rows)
 
 -- "every row holding an unbroken break place is at most the width in bytes"
 pub record HoldsWidth {k : Print} (r : Run k) (s : Succeeded r) : Type 0 where
-  pub listed : listing r s ≡ joined (rowsIn (piecesOf (metIn r s)))
+  pub listing-is : listing r s ≡ joined (rowsIn (piecesOf (metIn r s)))
   pub within : Within (r .width) (rowsIn (piecesOf (metIn r s)))
 
 -- ---- the whole
@@ -208,10 +208,10 @@ pub record OneRun {k : Print} (r : Run k) : Type 0 where
 -- and of two
 pub record TwoRuns {k : Print} (a b : Run k) : Type 0 where
   -- "Whatever the width, the two runs at that width end alike"
-  pub end-alike : Taken a b → a .width ≡ b .width → EndAlike a b
+  pub end-alike : Premises a b → a .width ≡ b .width → EndAlike a b
   -- "Whatever the two widths"
-  pub same-document : Taken a b → (s : Succeeded a) (t : Succeeded b) → SameDocument a b s t
-  pub put-back : Taken a b → (s : Succeeded a) (t : Succeeded b) → PutBack a s (document a s) × PutBack b t (document a s)
+  pub same-document : Premises a b → (s : Succeeded a) (t : Succeeded b) → SameDocument a b s t
+  pub put-back : Premises a b → (s : Succeeded a) (t : Succeeded b) → PutBack a s (document a s) × PutBack b t (document a s)
   pub first : OneRun a
   pub second : OneRun b
 

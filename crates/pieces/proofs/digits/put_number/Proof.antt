@@ -1,4 +1,4 @@
-use Rattle.pieces.specs.Docs.{number}
+use Rattle.pieces.specs.Docs.{numberDoc}
 use Rattle.document.specs.Sink.{emit, putText}
 use borrow.Author.Needs.{needs}
 use Rattle.pieces.proofs.digits.put_number.Statement.{statement}
@@ -17,7 +17,7 @@ same-length-2 : tie.Need-same-length-2
 same-length-2 c = search needs
 
 returns : tie.Need-returns
-unfolding emit number putText
+unfolding emit numberDoc putText
 returns c =
     let at-end-text = c .before .before .before .before in
     let at-put-digits = at-end-text .before .before .before .before .before .before .before in
