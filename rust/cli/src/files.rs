@@ -1,13 +1,18 @@
-//! Reading and writing files; `-` is standard input or output.
+//! Reading and writing files; `-` is standard input or output. A file is never written over what it was made of, and never by halves.
 use crate::console::{failed, shown};
 use crate::Failure;
-use std::fs::File;
+use std::fs::{self, File, Metadata, OpenOptions, Permissions};
 use std::io::{self, Read, Write};
-use std::path::Path;
+use std::os::fd::{AsFd, BorrowedFd};
+use std::os::unix::fs::MetadataExt;
+use std::path::{Path, PathBuf};
+use std::time::SystemTime;
 use tilusorgu::{pool_file, Pool};
 
 /// No text form that anyone types comes near it.
 const MOST_TEXT: u64 = 1 << 24;
+/// As many links as the system follows.
+const MOST_LINKS: usize = 40;
 
 pub fn is_standard(path: &Path) -> bool {
     path == Path::new("-")
@@ -18,6 +23,27 @@ pub fn name(path: &Path) -> String {
         "standard input".to_string()
     } else {
         shown(&path.to_string_lossy())
+    }
+}
+
+/// The regular file that a path or, for `-`, an open one leads to: two links to one file are the same here.
+fn identity(path: &Path, standard: BorrowedFd<'_>) -> Option<(u64, u64)> {
+    let found = if is_standard(path) { opened(standard) } else { fs::metadata(path) }.ok()?;
+    found.is_file().then(|| (found.dev(), found.ino()))
+}
+
+/// What is known of an open file.
+pub fn opened(file: BorrowedFd<'_>) -> io::Result<Metadata> {
+    File::from(file.try_clone_to_owned()?).metadata()
+}
+
+/// Refuses to write into what is read.
+pub fn apart(input: &Path, output: &Path) -> Result<(), Failure> {
+    match (identity(input, io::stdin().as_fd()), identity(output, io::stdout().as_fd())) {
+        (Some(read), Some(written)) if read == written => {
+            Err(Failure::Trouble(format!("{} is input and output at once: nothing is written; name another file for the output", name(input))))
+        }
+        _ => Ok(()),
     }
 }
 
@@ -55,6 +81,41 @@ pub fn write_pool(path: &Path, pool: &Pool) -> Result<(), Failure> {
         let mut out = io::stdout().lock();
         return out.write_all(&pool_file::encode(pool)).and_then(|()| out.flush()).map_err(failed);
     }
-    let written = File::create(path).and_then(|file| pool_file::write(pool, file));
+    let written = replace(path, &pool_file::encode(pool));
     written.map_err(|error| Failure::Trouble(format!("{} cannot be written: {error}", name(path))))
+}
+
+/// Writes a whole file. A regular one keeps what it had until all is there; a device or a pipe is written as it is.
+fn replace(path: &Path, bytes: &[u8]) -> io::Result<()> {
+    match fs::metadata(path) {
+        Ok(old) if !old.is_file() => OpenOptions::new().write(true).open(path)?.write_all(bytes),
+        Ok(old) if old.permissions().readonly() => Err(io::Error::new(io::ErrorKind::PermissionDenied, "it is write-protected")),
+        old => put_in_place(&followed(path), bytes, old.ok().map(|old| old.permissions())),
+    }
+}
+
+/// The place that links lead to, whether a file is there or not.
+fn followed(path: &Path) -> PathBuf {
+    let (mut place, mut links) = (path.to_path_buf(), 0);
+    while let (Ok(next), true) = (fs::read_link(&place), links < MOST_LINKS) {
+        (place, links) = (place.parent().unwrap_or(Path::new("")).join(next), links + 1);
+    }
+    place
+}
+
+/// Writes beside the place, then renames: whatever fails on the way leaves what was there, and nothing else.
+fn put_in_place(place: &Path, bytes: &[u8], permissions: Option<Permissions>) -> io::Result<()> {
+    let now = SystemTime::now().duration_since(SystemTime::UNIX_EPOCH).unwrap_or_default();
+    let beside = place.with_file_name(format!(".tilusorgu-{}-{}.tmp", std::process::id(), now.as_nanos()));
+    let mut file = OpenOptions::new().write(true).create_new(true).open(&beside)?;
+    let done = permissions
+        .map_or(Ok(()), |p| file.set_permissions(p))
+        .and_then(|()| file.write_all(bytes))
+        // some systems tell only now that the disk is full
+        .and_then(|()| file.sync_all())
+        .and_then(|()| fs::rename(&beside, place));
+    if done.is_err() {
+        let _ = fs::remove_file(&beside);
+    }
+    done
 }

@@ -11,8 +11,9 @@ use tilusorgu::{Areas, Counts, Pool, Refusal, Root, Table};
 /// Bytes of a name that a message shows.
 const TITLE: usize = 100;
 
-/// An accepted pool.
+/// An accepted pool, of a file that standard output does not go to.
 fn accepted(path: &Path) -> Result<Pool, Failure> {
+    files::apart(path, Path::new("-"))?;
     let pool = files::read_pool(path)?;
     match pool.check() {
         Ok(()) => Ok(pool),

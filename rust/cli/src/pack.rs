@@ -8,6 +8,7 @@ use tilusorgu::{Pool, Table};
 
 pub fn pack(pack: &Pack) -> Result<Outcome, Failure> {
     let out = target(pack)?;
+    files::apart(&pack.file, &out)?;
     let typed = files::read_text(&pack.file)?;
     let packed = text::pack(&typed, pack.sharing).map_err(|m| Failure::Trouble(format!("{}:{m}", files::name(&pack.file))))?;
     files::write_pool(&out, &packed.pool)?;

@@ -1,46 +1,14 @@
 //! The command, as a user meets it: output, messages and status.
+mod common;
+
+use common::{assert_fails, command, file, pool_file, run, said};
 use std::io::{Read, Write};
-use std::path::PathBuf;
-use std::process::{Command, Output, Stdio};
+use std::process::Stdio;
 use tilusorgu::pool_file::encode;
 use tilusorgu::text::{pack, Sharing};
 use tilusorgu::Pool;
 
 const TWO: &str = "(axiom a.b @C) (def «odd one» (-> @A @B) @c) (axiom «a.b» @D)";
-
-/// A file of this test run's own.
-fn file(name: &str, bytes: &[u8]) -> PathBuf {
-    let folder = PathBuf::from(env!("CARGO_TARGET_TMPDIR"));
-    std::fs::create_dir_all(&folder).unwrap();
-    let path = folder.join(name);
-    std::fs::write(&path, bytes).unwrap();
-    path
-}
-
-fn pool_file(name: &str, text: &str) -> PathBuf {
-    file(name, &encode(&pack(text, Sharing::Shared).unwrap().pool))
-}
-
-fn command() -> Command {
-    Command::new(env!("CARGO_BIN_EXE_tilusorgu"))
-}
-
-fn run(words: &[&str]) -> (String, String, i32) {
-    said(command().args(words).output().unwrap())
-}
-
-fn said(output: Output) -> (String, String, i32) {
-    let text = |bytes: Vec<u8>| String::from_utf8(bytes).unwrap();
-    (text(output.stdout), text(output.stderr), output.status.code().expect("it ended by itself"))
-}
-
-/// A command that ends with this status, writes nothing and says something that has these words in it.
-fn assert_fails(words: &[&str], status: i32, part: &str) {
-    let (output, messages, ended) = run(words);
-    assert_eq!((output.as_str(), ended), ("", status), "{words:?}: {messages}");
-    assert!(messages.starts_with("tilusorgu: ") && messages.contains(part), "{words:?}: {messages}");
-    assert!(!messages.contains("panicked"), "{messages}");
-}
 
 #[test]
 fn lists_all_declarations() {

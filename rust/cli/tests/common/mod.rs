@@ -1,0 +1,45 @@
+//! The command as a test runs it.
+#![allow(dead_code)] // each test file uses some of it
+use std::path::PathBuf;
+use std::process::{Command, Output};
+use tilusorgu::pool_file::encode;
+use tilusorgu::text::{pack, Sharing};
+
+/// A folder of this test run's own.
+pub fn folder(name: &str) -> PathBuf {
+    let folder = PathBuf::from(env!("CARGO_TARGET_TMPDIR")).join(name);
+    std::fs::create_dir_all(&folder).unwrap();
+    folder
+}
+
+/// A file of this test run's own.
+pub fn file(name: &str, bytes: &[u8]) -> PathBuf {
+    let path = folder("").join(name);
+    std::fs::write(&path, bytes).unwrap();
+    path
+}
+
+pub fn pool_file(name: &str, text: &str) -> PathBuf {
+    file(name, &encode(&pack(text, Sharing::Shared).unwrap().pool))
+}
+
+pub fn command() -> Command {
+    Command::new(env!("CARGO_BIN_EXE_tilusorgu"))
+}
+
+pub fn run(words: &[&str]) -> (String, String, i32) {
+    said(command().args(words).output().unwrap())
+}
+
+pub fn said(output: Output) -> (String, String, i32) {
+    let text = |bytes: Vec<u8>| String::from_utf8(bytes).unwrap();
+    (text(output.stdout), text(output.stderr), output.status.code().expect("it ended by itself"))
+}
+
+/// A command that ends with this status, writes nothing and says something that has these words in it.
+pub fn assert_fails(words: &[&str], status: i32, part: &str) {
+    let (output, messages, ended) = run(words);
+    assert_eq!((output.as_str(), ended), ("", status), "{words:?}: {messages}");
+    assert!(messages.starts_with("tilusorgu: ") && messages.contains(part), "{words:?}: {messages}");
+    assert!(!messages.contains("panicked"), "{messages}");
+}
