@@ -24,6 +24,10 @@ fn declarations() {
 fn levels() {
     assert_eq!(listed("(axiom k (Sort 0))"), "axiom k : Sort 0");
     assert_eq!(listed("(axiom k.{u 2 v+1} (Type (max u (+ v 2))))"), "axiom k.{u 2 v+1} : Type (max u (v+2))");
+    assert_eq!(listed("(axiom k.{u, v} (@P @C.{u,v}))"), "axiom k.{u v} : @P @C");
+    // the levels of a constant are not listed
+    let pool = |text: &str| pack(text, Sharing::Shared).unwrap().pool;
+    assert_eq!(pool("(axiom k.{u, v} (@P @C.{u,v}))"), pool("(axiom k.{u v} (@P @C.{u v}))"));
     assert_eq!(listed("(axiom k (Sort (imax (succ u) 0)))"), "axiom k : Sort (imax (u+1) 0)");
 }
 
@@ -96,6 +100,8 @@ fn mistakes() {
         ("(define t #0) (axiom k (forall (a b : $t) @C))", "1:39: $t has loose variables"),
         ("(define t @C) (define t @C)", "1:23: t is defined already"),
         ("(row names 1)", "1:6: a row of names has 4 words"),
+        ("(axiom a,b @C)", "1:9: no comma is expected here"),
+        ("(axiom k (forall (x : @A), @C))", "1:26: no comma is expected here"),
     ] {
         assert!(said(text).starts_with(start), "{text}: {}", said(text));
     }
@@ -124,7 +130,7 @@ fn past_the_limits() {
 /// The samples with a character taken away or another one in its place: a pool or a mistake with a place, never a panic.
 #[test]
 fn damaged_texts() {
-    let signs: Vec<char> = "(){}[]\"«».#@$:_0-\\ \n".chars().collect();
+    let signs: Vec<char> = "(){}[]\"«».,#@$:_0-\\ \n".chars().collect();
     let (mut packed, mut mistakes) = (0, 0);
     for file in std::fs::read_dir(concat!(env!("CARGO_MANIFEST_DIR"), "/../samples")).unwrap() {
         let path = file.unwrap().path();

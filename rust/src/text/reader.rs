@@ -63,7 +63,21 @@ impl Item {
 /// All items of a text.
 pub fn items(text: &str) -> Result<Vec<Item>, Mistake> {
     let mut reader = Reader { rest: text, at: At { line: 1, column: 1 }, nested: 0 };
-    reader.until(None)
+    reader.until(None, Commas::Refused)
+}
+
+/// May commas stand between the items of a list? Between levels they may, as in `k.{u, v}`.
+#[derive(Clone, Copy, PartialEq, Eq)]
+enum Commas {
+    Refused,
+    Between,
+}
+
+fn no_comma(commas: Commas) -> &'static str {
+    match commas {
+        Commas::Refused => "no comma is expected here: commas stand between levels only, as in k.{u, v}; one in a name is typed in « »",
+        Commas::Between => "a comma stands between two levels: one is missing beside this one",
+    }
 }
 
 struct Reader<'a> {
@@ -100,20 +114,28 @@ impl Reader<'_> {
     }
 
     /// Items up to the closing bracket, which is taken, or to the end of the text.
-    fn until(&mut self, open: Option<(Bracket, At)>) -> Result<Vec<Item>, Mistake> {
-        let mut items = Vec::new();
+    fn until(&mut self, open: Option<(Bracket, At)>, commas: Commas) -> Result<Vec<Item>, Mistake> {
+        let (mut items, mut comma) = (Vec::new(), None);
         loop {
             self.skip();
             let at = self.at;
             match (self.peek(), open) {
                 (None, None) => return Ok(items),
                 (None, Some((bracket, start))) => return mistake(start, format!("this bracket is not closed by {}", bracket.close())),
+                (Some(','), _) if commas == Commas::Between && comma.is_none() && !items.is_empty() => {
+                    self.take();
+                    comma = Some(at);
+                }
+                (Some(','), _) => return mistake(at, no_comma(commas)),
                 (Some(c), Some((bracket, _))) if c == bracket.close() => {
                     self.take();
-                    return Ok(items);
+                    return comma.map_or(Ok(items), |at| mistake(at, no_comma(commas)));
                 }
                 (Some(c @ (')' | '}' | ']')), _) => return mistake(at, format!("{c} closes nothing here")),
-                (Some(c), _) => items.push(Item { at, kind: self.item(c, at)? }),
+                (Some(c), _) => {
+                    items.push(Item { at, kind: self.item(c, at)? });
+                    comma = None;
+                }
             }
         }
     }
@@ -124,32 +146,32 @@ impl Reader<'_> {
             return self.quoted(at);
         }
         match Bracket::opened_by(first) {
-            Some(bracket) => Ok(Kind::List(bracket, self.nested(bracket, at)?)),
+            Some(bracket) => Ok(Kind::List(bracket, self.nested(bracket, at, Commas::Refused)?)),
             None => self.word(at),
         }
     }
 
-    fn nested(&mut self, bracket: Bracket, at: At) -> Result<Vec<Item>, Mistake> {
+    fn nested(&mut self, bracket: Bracket, at: At, commas: Commas) -> Result<Vec<Item>, Mistake> {
         if self.nested == MOST_NESTED {
             return mistake(at, format!("brackets are nested more than {MOST_NESTED} deep"));
         }
         self.take();
         self.nested += 1;
-        let items = self.until(Some((bracket, at)))?;
+        let items = self.until(Some((bracket, at)), commas)?;
         self.nested -= 1;
         Ok(items)
     }
 
-    /// A word ends at a blank, a bracket or a quote; what stands in « » belongs to it whatever it is.
+    /// A word ends at a blank, a comma, a bracket or a quote; what stands in « » belongs to it whatever it is.
     fn word(&mut self, at: At) -> Result<Kind, Mistake> {
         let mut text = String::new();
         while let Some(c) = self.peek() {
             if c == '{' && text.ends_with('.') {
                 text.pop();
-                let levels = Some(self.nested(Bracket::Curly, self.at)?);
+                let levels = Some(self.nested(Bracket::Curly, self.at, Commas::Between)?);
                 return Ok(Kind::Word { text, levels });
             }
-            if c.is_whitespace() || "(){}[]\"".contains(c) {
+            if c.is_whitespace() || ",(){}[]\"".contains(c) {
                 break;
             }
             text.push(c);
@@ -221,6 +243,25 @@ mod tests {
         assert!(matches!(&list[2].list(Bracket::Square).unwrap()[0].kind, Kind::Quoted(b) if b == b"q\"A"));
         assert!(matches!(&all[1].kind, Kind::Word { text, levels: Some(l) } if text == "k" && l.len() == 2));
         assert_eq!(all[1].at, At { line: 2, column: 1 });
+    }
+
+    #[test]
+    fn commas_between_levels() {
+        for text in ["k.{u v}", "k.{u, v}", "k.{u,v}", "k.{ u ,v }", "k.{u, -- and\nv}"] {
+            let all = items(text).unwrap();
+            let Kind::Word { text: word, levels: Some(levels) } = &all[0].kind else { panic!("{text}") };
+            assert_eq!((word.as_str(), levels.iter().map(Item::word).collect::<Vec<_>>()), ("k", vec![Some("u"), Some("v")]), "{text}");
+        }
+        let said = |text: &str| items(text).unwrap_err().to_string();
+        for (text, place) in [("k.{,u}", "1:4"), ("k.{u,}", "1:5"), ("k.{u,, v}", "1:6"), ("k.{,}", "1:4")] {
+            assert!(said(text).starts_with(&format!("{place}: a comma stands between two levels")), "{}", said(text));
+        }
+        for (text, place) in
+            [("a,b", "1:2"), ("(a, b)", "1:3"), ("(f (x : A), b)", "1:11"), (",", "1:1"), ("k.{(max u, v)}", "1:10"), ("{a,}", "1:3")]
+        {
+            assert!(said(text).starts_with(&format!("{place}: no comma is expected here")), "{}", said(text));
+        }
+        assert_eq!(items("«a,b» \"c,d\"").unwrap()[0].word(), Some("«a,b»"));
     }
 
     #[test]
