@@ -13,6 +13,7 @@ mod pool;
 pub mod pool_file;
 pub mod raw;
 mod refusal;
+mod rows;
 mod rules;
 mod stack;
 pub mod text;

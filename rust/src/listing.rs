@@ -51,6 +51,11 @@ impl Areas {
         &self.listing[..counts.listing_length as usize]
     }
 
+    /// Where the rows of that listing start. A row may hold newlines of the pool's own texts: only this tells them from its end.
+    pub fn row_starts(&self, counts: &Counts) -> Vec<usize> {
+        crate::rows::row_starts(self.document(counts), self.listing(counts))
+    }
+
     /// The document that a print with these counts left, to be laid out at another width.
     pub fn document(&self, counts: &Counts) -> Given<'_> {
         let rows = &self.rows[..ROW_WORDS * counts.document_rows as usize];

@@ -3,7 +3,8 @@
 mod recorded;
 
 use recorded::Print;
-use tilusorgu::{calls, with_stack, Given, Lent, Pool};
+use tilusorgu::text::{pack, Sharing};
+use tilusorgu::{calls, with_stack, Areas, Counts, Given, Lent, Pool, Root, Sizes};
 
 /// Prints into areas of exactly the recorded lengths, and lays the document out again.
 fn assert_print(pool: &Pool, print: &Print) {
@@ -32,4 +33,43 @@ fn replay() {
             recorded.prints.iter().for_each(|print| assert_print(&recorded.pool, print));
         }
     });
+}
+
+/// The rows of the listing that was printed last.
+fn rows(areas: &Areas, counts: &Counts) -> Vec<String> {
+    let (listing, starts) = (areas.listing(counts), areas.row_starts(counts));
+    let ends = starts[1..].iter().map(|next| next - 1).chain([listing.len()]);
+    assert!(starts[1..].iter().all(|&start| listing[start - 1] == b'\n'));
+    starts.iter().zip(ends).map(|(&start, end)| String::from_utf8(listing[start..end].to_vec()).unwrap()).collect()
+}
+
+/// The longest of the rows found is as long as the print says, and they have the lines between them.
+#[test]
+fn rows_of_recorded_listings() {
+    let (mut areas, mut held) = (Areas::default(), 0);
+    with_stack(|| {
+        for recorded in recorded::read() {
+            for print in recorded.prints {
+                let counts = areas.print(&recorded.pool, print.root, print.sizes).unwrap();
+                let rows = rows(&areas, &counts);
+                assert_eq!(rows.iter().map(String::len).max(), Some(counts.longest_row as usize));
+                assert_eq!(rows.iter().map(|r| r.split('\n').count() as u64).sum::<u64>(), counts.lines);
+                held += usize::from(rows.iter().any(|r| r.contains('\n')));
+            }
+        }
+    });
+    assert!(held > 100, "{held} listings have a newline within a row");
+}
+
+/// Texts that look like the rows round them.
+#[test]
+fn forged_rows() {
+    let pool = pack("(axiom k (@f \"a\n    b\" \"\n\" \"\\\\n\" (@g @«\n  @x» \" \n\")))", Sharing::Shared).unwrap().pool;
+    let mut areas = Areas::default();
+    let counts = areas.print(&pool, Root::Declar(0), Sizes { indent: 2, width: 0 }).unwrap();
+    let expected = ["axiom k :", "  @f", "    \"a\n    b\"", "    \"\n\"", "    \"\\n\"", "    (@g", "      @«\n  @x»", "      \" \n\")"];
+    assert_eq!(rows(&areas, &counts), expected);
+    let counts = areas.print(&pool, Root::Declar(0), Sizes { indent: 2, width: 200 }).unwrap();
+    assert_eq!(rows(&areas, &counts).len(), 1);
+    assert_eq!(counts.lines, 5);
 }

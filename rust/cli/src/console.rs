@@ -4,7 +4,7 @@ use std::io::{self, Write};
 
 /// A line on standard error. Where even that is closed, nothing is left to be told.
 pub fn say(line: &str) {
-    let _ = writeln!(io::stderr(), "tilusorgu: {line}");
+    let _ = writeln!(io::stderr(), "tilusorgu: {}", shown(line));
 }
 
 /// A write's failure: quiet if the reader has gone away.
@@ -21,7 +21,13 @@ pub fn print(text: &str) -> Result<(), Failure> {
     out.write_all(text.as_bytes()).and_then(|()| out.flush()).map_err(failed)
 }
 
-/// A name or a path for a message: what could move the cursor is escaped.
+/// A text for a terminal or a message: what could move the cursor, end a line or turn the reading direction is escaped.
 pub fn shown(text: &str) -> String {
-    text.chars().map(|c| if c.is_control() { c.escape_default().to_string() } else { c.to_string() }).collect()
+    text.chars().map(|c| if is_harmful(c) { c.escape_default().to_string() } else { c.to_string() }).collect()
+}
+
+/// Control characters, the separators of lines and paragraphs, and the marks of bidirectional text.
+fn is_harmful(c: char) -> bool {
+    let marks = ['\u{61c}', '\u{200e}', '\u{200f}', '\u{2028}', '\u{2029}'];
+    c.is_control() || marks.contains(&c) || ('\u{202a}'..='\u{202e}').contains(&c) || ('\u{2066}'..='\u{2069}').contains(&c)
 }

@@ -1,10 +1,11 @@
 //! `check` and `list`.
 use crate::console::{failed, print, say, shown};
+use crate::display::Display;
 use crate::options::{Chosen, List};
 use crate::pack::counted;
 use crate::progress::Progress;
 use crate::{files, Failure, Outcome};
-use std::io::{self, BufWriter, Write};
+use std::io::{self, BufWriter, IsTerminal, Write};
 use std::path::Path;
 use tilusorgu::{Areas, Counts, Pool, Refusal, Root, Table};
 
@@ -85,6 +86,7 @@ pub fn list(list: &List) -> Result<Outcome, Failure> {
     if roots.is_empty() {
         say(&format!("{} has no declarations", files::name(&list.file)));
     }
+    let display = Display { escapes: io::stdout().is_terminal() && !list.raw, numbers: list.numbers };
     let mut out = BufWriter::with_capacity(1 << 16, io::stdout().lock());
     let (mut areas, mut progress) = (Areas::default(), Progress::new(roots.len()));
     let (mut outcome, mut first) = (Outcome::Done, true);
@@ -97,7 +99,7 @@ pub fn list(list: &List) -> Result<Outcome, Failure> {
                 Some(refused(&pool, root, refusal))
             }
             Ok(counts) => {
-                write_listing(&mut out, areas.listing(&counts), first).map_err(failed)?;
+                write_listing(&mut out, &areas, &counts, display, first).map_err(failed)?;
                 first = false;
                 list.counts.then(|| format!("{}: {}", titled(&pool, root), counts_line(&counts)))
             }
@@ -116,10 +118,13 @@ pub fn list(list: &List) -> Result<Outcome, Failure> {
 }
 
 /// A listing ends with a newline, and an empty line stands between two.
-fn write_listing(out: &mut impl Write, listing: &[u8], first: bool) -> io::Result<()> {
+fn write_listing(out: &mut impl Write, areas: &Areas, counts: &Counts, display: Display, first: bool) -> io::Result<()> {
     if !first {
         out.write_all(b"\n")?;
     }
-    out.write_all(listing)?;
+    if !display.is_plain() {
+        return display.write(out, areas.listing(counts), &areas.row_starts(counts));
+    }
+    out.write_all(areas.listing(counts))?;
     out.write_all(b"\n")
 }

@@ -1,5 +1,6 @@
 //! The statement lister as a command: `tilusorgu help`.
 mod console;
+mod display;
 mod files;
 mod list;
 mod options;

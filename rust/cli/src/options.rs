@@ -14,12 +14,15 @@ tilusorgu list FILE [OPTION]..    lists declarations and expressions of a pool
     --indent N                    spaces of a step of indentation, 0 to 64 (2)
     --width N                     width of a row in bytes, 0 to 65535 (120)
     --counts                      the counts of each listing, on standard error
+    --numbers                     a margin with the number of each row; lines that a newline of a name or a literal makes have a + instead
+    --raw                         on a terminal, too, the bytes of names and literals as they are
 tilusorgu pack FILE.txt [OPTION]..   makes a pool file of a text form
     -o FILE                       the pool file (FILE.pool beside the text; - is standard output)
     --no-share                    each row typed is a row of its own, even if it equals another
 tilusorgu help, tilusorgu version
 
 --width 80 and --width=80 are the same. FILE is a pool file, or - for standard input. Listings are separated by an empty line.
+On a terminal control characters and bidirectional marks of names and literals are shown as escapes; a pipe or a file gets the bytes.
 Status: 0 done; 1 something was refused; 2 wrong command line, wrong file, or no such name.
 docs/POOL-FILE.md has the pool file and the text form.
 ";
@@ -44,6 +47,8 @@ pub struct List {
     pub chosen: Vec<Chosen>,
     pub sizes: Sizes,
     pub counts: bool,
+    pub numbers: bool,
+    pub raw: bool,
 }
 
 pub struct Pack {
@@ -135,7 +140,8 @@ fn unknown(option: &str, command: &str) -> Result<Command, Failure> {
 }
 
 fn list(mut words: Words) -> Result<Command, Failure> {
-    let (mut chosen, mut sizes, mut counts) = (Vec::new(), Sizes::default(), false);
+    let (mut chosen, mut sizes) = (Vec::new(), Sizes::default());
+    let (mut counts, mut numbers, mut raw) = (false, false, false);
     while let Some(option) = words.option()? {
         match option.as_str() {
             "--declar" => chosen.push(declar(words.text("--declar")?)?),
@@ -143,10 +149,12 @@ fn list(mut words: Words) -> Result<Command, Failure> {
             "--indent" => sizes.indent = words.number("--indent")?,
             "--width" => sizes.width = words.number("--width")?,
             "--counts" => counts = true,
+            "--numbers" => numbers = true,
+            "--raw" => raw = true,
             _ => return unknown(&option, "list"),
         }
     }
-    Ok(Command::List(List { file: words.file()?, chosen, sizes, counts }))
+    Ok(Command::List(List { file: words.file()?, chosen, sizes, counts, numbers, raw }))
 }
 
 /// Digits are a row; a name may stand in the marks that listings put round odd ones.

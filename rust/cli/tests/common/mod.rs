@@ -1,6 +1,6 @@
 //! The command as a test runs it.
 #![allow(dead_code)] // each test file uses some of it
-use std::path::PathBuf;
+use std::path::{Path, PathBuf};
 use std::process::{Command, Output};
 use tilusorgu::pool_file::encode;
 use tilusorgu::text::{pack, Sharing};
@@ -42,4 +42,42 @@ pub fn assert_fails(words: &[&str], status: i32, part: &str) {
     assert_eq!((output.as_str(), ended), ("", status), "{words:?}: {messages}");
     assert!(messages.starts_with("tilusorgu: ") && messages.contains(part), "{words:?}: {messages}");
     assert!(!messages.contains("panicked"), "{messages}");
+}
+
+/// Runs words with a terminal: standard output goes there, or to a file and standard error there. What it got is written as it came.
+const TERMINAL: &str = "
+import os, subprocess, sys, tty
+got, (terminal, slave) = b'', os.openpty()
+tty.setraw(slave)
+to = subprocess.DEVNULL if sys.argv[1] == '' else open(sys.argv[1], 'wb')
+streams = dict(stdout=slave, stderr=to) if sys.argv[1] == '' else dict(stdout=to, stderr=slave)
+program = subprocess.Popen(sys.argv[2:], stdin=subprocess.DEVNULL, **streams)
+os.close(slave)
+while True:
+    try:
+        part = os.read(terminal, 65536)
+    except OSError:
+        break
+    if not part:
+        break
+    got += part
+sys.stdout.buffer.write(got)
+sys.exit(program.wait())
+";
+
+fn terminal(file: &str, words: &[&str]) -> (String, i32) {
+    let program = ["-c", TERMINAL, file, env!("CARGO_BIN_EXE_tilusorgu")];
+    let (got, messages, status) = said(Command::new("python3").args(program).args(words).output().unwrap());
+    assert_eq!(messages, "");
+    (got, status)
+}
+
+/// What a terminal shows of standard output, and the status.
+pub fn on_terminal(words: &[&str]) -> (String, i32) {
+    terminal("", words)
+}
+
+/// What a terminal shows of standard error while standard output goes to this file, and the status.
+pub fn errors_on_terminal(file: &Path, words: &[&str]) -> (String, i32) {
+    terminal(file.to_str().unwrap(), words)
 }
