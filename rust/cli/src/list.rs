@@ -88,7 +88,7 @@ pub fn list(list: &List) -> Result<Outcome, Failure> {
     }
     let display = Display { escapes: io::stdout().is_terminal() && !list.raw, numbers: list.numbers };
     let mut out = BufWriter::with_capacity(1 << 16, io::stdout().lock());
-    let (mut areas, mut progress) = (Areas::default(), Progress::new(roots.len()));
+    let (mut areas, mut progress) = (Areas::default(), Progress::new(roots.len(), list.progress));
     let (mut outcome, mut first) = (Outcome::Done, true);
     for &root in &roots {
         let message = match areas.print(&pool, root, list.sizes) {
@@ -112,7 +112,6 @@ pub fn list(list: &List) -> Result<Outcome, Failure> {
             say(&message);
         }
     }
-    progress.clear();
     out.flush().map_err(failed)?;
     Ok(outcome)
 }

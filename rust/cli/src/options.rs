@@ -1,4 +1,5 @@
 //! The command line.
+use crate::progress::Wanted;
 use crate::Failure;
 use std::ffi::OsString;
 use std::path::PathBuf;
@@ -15,6 +16,8 @@ tilusorgu list FILE [OPTION]..    lists declarations and expressions of a pool
     --width N                     width of a row in bytes, 0 to 65535 (120)
     --counts                      the counts of each listing, on standard error
     --numbers                     a margin with the number of each row; lines that a newline of a name or a literal makes have a + instead
+    --progress, --quiet           how far the listing is, on standard error: always, never
+                                  (without them: while it goes to a file, on a terminal)
     --raw                         on a terminal, too, the bytes of names and literals as they are
 tilusorgu pack FILE.txt [OPTION]..   makes a pool file of a text form
     -o FILE                       the pool file (FILE.pool beside the text; - is standard output)
@@ -49,6 +52,7 @@ pub struct List {
     pub counts: bool,
     pub numbers: bool,
     pub raw: bool,
+    pub progress: Wanted,
 }
 
 pub struct Pack {
@@ -141,7 +145,7 @@ fn unknown(option: &str, command: &str) -> Result<Command, Failure> {
 
 fn list(mut words: Words) -> Result<Command, Failure> {
     let (mut chosen, mut sizes) = (Vec::new(), Sizes::default());
-    let (mut counts, mut numbers, mut raw) = (false, false, false);
+    let (mut counts, mut numbers, mut raw, mut progress) = (false, false, false, Wanted::ForFiles);
     while let Some(option) = words.option()? {
         match option.as_str() {
             "--declar" => chosen.push(declar(words.text("--declar")?)?),
@@ -151,10 +155,12 @@ fn list(mut words: Words) -> Result<Command, Failure> {
             "--counts" => counts = true,
             "--numbers" => numbers = true,
             "--raw" => raw = true,
+            "--progress" => progress = Wanted::Always,
+            "--quiet" => progress = Wanted::Never,
             _ => return unknown(&option, "list"),
         }
     }
-    Ok(Command::List(List { file: words.file()?, chosen, sizes, counts, numbers, raw }))
+    Ok(Command::List(List { file: words.file()?, chosen, sizes, counts, numbers, raw, progress }))
 }
 
 /// Digits are a row; a name may stand in the marks that listings put round odd ones.

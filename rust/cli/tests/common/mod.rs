@@ -44,12 +44,13 @@ pub fn assert_fails(words: &[&str], status: i32, part: &str) {
     assert!(!messages.contains("panicked"), "{messages}");
 }
 
-/// Runs words with a terminal: standard output goes there, or to a file and standard error there. What it got is written as it came.
+/// Runs words with a terminal: standard output goes there, or standard error, and standard output to a file or, for |, to a pipe that is
+/// not read. What the terminal got is written as it came.
 const TERMINAL: &str = "
 import os, subprocess, sys, tty
 got, (terminal, slave) = b'', os.openpty()
 tty.setraw(slave)
-to = subprocess.DEVNULL if sys.argv[1] == '' else open(sys.argv[1], 'wb')
+to = {'': subprocess.DEVNULL, '|': subprocess.PIPE}.get(sys.argv[1]) or open(sys.argv[1], 'wb')
 streams = dict(stdout=slave, stderr=to) if sys.argv[1] == '' else dict(stdout=to, stderr=slave)
 program = subprocess.Popen(sys.argv[2:], stdin=subprocess.DEVNULL, **streams)
 os.close(slave)
@@ -77,7 +78,7 @@ pub fn on_terminal(words: &[&str]) -> (String, i32) {
     terminal("", words)
 }
 
-/// What a terminal shows of standard error while standard output goes to this file, and the status.
+/// What a terminal shows of standard error while standard output goes to this file (or to a pipe: |), and the status.
 pub fn errors_on_terminal(file: &Path, words: &[&str]) -> (String, i32) {
     terminal(file.to_str().unwrap(), words)
 }
