@@ -3,6 +3,11 @@ use crate::refusal::Refusal;
 use crate::rules::rule;
 use std::borrow::Cow;
 
+/// Rows that a table may have.
+const MOST_ROWS: u32 = 65_536;
+/// Bytes that the byte area may have.
+const MOST_POOL_BYTES: usize = 1 << 24;
+
 /// A byte area and words: seven counts, then the tables in the order of [`Table`].
 #[derive(Clone, Debug, Default, PartialEq, Eq)]
 pub struct Pool {
@@ -153,12 +158,49 @@ impl Pool {
         Some(Pool { bytes: self.bytes.clone(), words })
     }
 
-    /// The refusal with the faulty row's table and words.
+    /// The refusal in words: with the count that is wrong, or with the faulty row's table and words.
     pub fn explain(&self, refusal: Refusal) -> String {
-        let Some((table, row)) = self.faulty_table(refusal).and_then(|t| Some((t, self.row(t, refusal.place)?))) else {
-            return refusal.to_string();
-        };
-        let words: Vec<String> = row.iter().map(u32::to_string).collect();
-        format!("refused {} ({} row {}, words {}): {}", refusal.number, table.row_name(), refusal.place, words.join(" "), rule(table, row))
+        match refusal.number {
+            1 => format!("refused 1: {}", self.wrong_total()),
+            2 => format!("refused 2: {}", self.past_limit()),
+            _ => self.faulty_row(refusal).unwrap_or_else(|| refusal.to_string()),
+        }
     }
+
+    fn faulty_row(&self, refusal: Refusal) -> Option<String> {
+        let table = self.faulty_table(refusal)?;
+        let row = self.row(table, refusal.place)?;
+        let words: Vec<String> = row.iter().map(u32::to_string).collect();
+        let rule = rule(table, row);
+        Some(format!("refused {} ({} row {}, words {}): {rule}", refusal.number, table.row_name(), refusal.place, words.join(" ")))
+    }
+
+    /// How many rows each table has, in words.
+    pub fn counted(&self) -> String {
+        Table::ALL.map(|t| counted(self.count(t), t)).join(", ")
+    }
+
+    /// What the words' total is, and what the counts make it.
+    fn wrong_total(&self) -> String {
+        let there = self.words.len();
+        if there < 7 {
+            return format!("it has {there} words, which is short of the seven counts of its head");
+        }
+        let tables = Table::ALL.map(|t| u64::from(self.count(t)) * t.row_words() as u64);
+        let (parts, total) = (tables.map(|words| words.to_string()).join(" + "), 7 + tables.iter().sum::<u64>());
+        format!("its counts ({}) make 7 + {parts} = {total} words, but it has {there}", self.counted())
+    }
+
+    /// Which count is past its limit.
+    fn past_limit(&self) -> String {
+        match Table::ALL.into_iter().find(|&t| self.count(t) > MOST_ROWS) {
+            Some(table) => format!("it has {}, and at most {MOST_ROWS} rows are allowed in a table", counted(self.count(table), table)),
+            None => format!("its byte area has {} bytes, and at most {MOST_POOL_BYTES} are allowed", self.bytes.len()),
+        }
+    }
+}
+
+/// So many rows of a table, in words.
+fn counted(count: u32, table: Table) -> String {
+    format!("{count} {}{}", table.row_name(), if count == 1 { "" } else { "s" })
 }

@@ -1,6 +1,6 @@
 //! The text form: what its forms mean, by what is listed, and what is said of mistakes.
 use tilusorgu::text::{pack, Sharing};
-use tilusorgu::{Sizes, Table};
+use tilusorgu::{Pool, Sizes, Table};
 
 /// The first declaration's listing, the same from shared and from separate rows.
 fn listed(text: &str) -> String {
@@ -100,11 +100,38 @@ fn mistakes() {
         ("(define t #0) (axiom k (forall (a b : $t) @C))", "1:39: $t has loose variables"),
         ("(define t @C) (define t @C)", "1:23: t is defined already"),
         ("(row names 1)", "1:6: a row of names has 4 words"),
+        ("(axiom k (forall (x : @A)))", "1:18: a body is missing here"),
+        ("(axiom k (fun (x : @A) {y z : @B}))", "1:24: a body is missing here"),
+        ("(axiom k (forall))", "1:10: binders and a body are expected"),
+        ("(axiom k (let (x : @A := @v)))", "1:10: a body is missing here: a let is"),
+        ("(axiom k (have))", "1:10: a let is"),
+        ("\u{feff}(axiom k @C)", "1:1: the text begins with a byte order mark (U+FEFF): save it as UTF-8 without one"),
         ("(axiom a,b @C)", "1:9: no comma is expected here"),
         ("(axiom k (forall (x : @A), @C))", "1:26: no comma is expected here"),
     ] {
         assert!(said(text).starts_with(start), "{text}: {}", said(text));
     }
+}
+
+/// Refusals 1 and 2 name the count, and what was expected of it.
+#[test]
+fn wrong_counts() {
+    let explained = |pool: &Pool| pool.explain(pool.check().unwrap_err());
+    let typed = |text: &str| explained(&pack(text, Sharing::Shared).unwrap().pool);
+    assert_eq!(
+        typed("(axiom k @C) (words 5)"),
+        "refused 1: its counts (2 strings, 3 names, 0 levels, 1 list, 0 list words, 1 expression, 1 declaration) make \
+         7 + 4 + 12 + 0 + 2 + 0 + 8 + 5 = 38 words, but it has 39"
+    );
+    assert_eq!(explained(&Pool { bytes: vec![], words: vec![0; 5] }), "refused 1: it has 5 words, which is short of the seven counts of its head");
+    assert!(explained(&Pool { bytes: vec![], words: vec![u32::MAX; 7] }).contains("= 107374182382 words, but it has 7"));
+    assert_eq!(
+        explained(&Pool { bytes: vec![b'n'; (1 << 24) + 1], words: vec![0; 7] }),
+        "refused 2: its byte area has 16777217 bytes, and at most 16777216 are allowed"
+    );
+    let mut words = vec![0, 65_537, 0, 0, 0, 0, 0];
+    words.resize(7 + 4 * 65_537, 0);
+    assert_eq!(explained(&Pool { bytes: vec![], words }), "refused 2: it has 65537 names, and at most 65536 rows are allowed in a table");
 }
 
 /// What is past a limit can be typed; check refuses it.

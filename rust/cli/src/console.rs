@@ -1,6 +1,6 @@
 //! Standard output and standard error, without the panics of `println!`.
-use crate::Failure;
-use std::io::{self, Write};
+use crate::{closed, Failure};
+use std::io::{self, StdoutLock, Write};
 
 /// A line on standard error. Where even that is closed, nothing is left to be told.
 pub fn say(line: &str) {
@@ -15,9 +15,17 @@ pub fn failed(error: io::Error) -> Failure {
     }
 }
 
+/// Standard output, unless it is closed.
+pub fn output() -> Result<StdoutLock<'static>, Failure> {
+    if closed::output() {
+        return Err(Failure::Trouble("standard output is closed: nothing can be written there".to_string()));
+    }
+    Ok(io::stdout().lock())
+}
+
 /// A whole text on standard output.
 pub fn print(text: &str) -> Result<(), Failure> {
-    let mut out = io::stdout().lock();
+    let mut out = output()?;
     out.write_all(text.as_bytes()).and_then(|()| out.flush()).map_err(failed)
 }
 

@@ -1,6 +1,6 @@
 //! Reading and writing files; `-` is standard input or output. A file is never written over what it was made of, and never by halves.
-use crate::console::{failed, shown};
-use crate::Failure;
+use crate::console::{failed, output, shown};
+use crate::{closed, Failure};
 use std::fs::{self, File, Metadata, OpenOptions, Permissions};
 use std::io::{self, Read, Write};
 use std::os::fd::{AsFd, BorrowedFd};
@@ -48,6 +48,9 @@ pub fn apart(input: &Path, output: &Path) -> Result<(), Failure> {
 }
 
 fn open(path: &Path) -> Result<Box<dyn Read>, Failure> {
+    if is_standard(path) && closed::input() {
+        return Err(Failure::Trouble("standard input is closed: nothing can be read from it".to_string()));
+    }
     if is_standard(path) {
         return Ok(Box::new(io::stdin()));
     }
@@ -70,6 +73,9 @@ pub fn read_text(path: &Path) -> Result<String, Failure> {
     if bytes.len() as u64 > MOST_TEXT {
         return trouble(format!("is longer than {MOST_TEXT} bytes"));
     }
+    if bytes.starts_with(&[0xff, 0xfe]) || bytes.starts_with(&[0xfe, 0xff]) {
+        return trouble("is no text form: it is UTF-16, as its byte order mark says; save it as UTF-8".to_string());
+    }
     match String::from_utf8(bytes) {
         Ok(text) => Ok(text),
         Err(error) => trouble(format!("is no text form: it is not UTF-8 at byte {}", error.utf8_error().valid_up_to())),
@@ -78,7 +84,7 @@ pub fn read_text(path: &Path) -> Result<String, Failure> {
 
 pub fn write_pool(path: &Path, pool: &Pool) -> Result<(), Failure> {
     if is_standard(path) {
-        let mut out = io::stdout().lock();
+        let mut out = output()?;
         return out.write_all(&pool_file::encode(pool)).and_then(|()| out.flush()).map_err(failed);
     }
     let written = replace(path, &pool_file::encode(pool));

@@ -1,8 +1,7 @@
 //! `check` and `list`.
-use crate::console::{failed, print, say, shown};
+use crate::console::{failed, output, print, say, shown};
 use crate::display::Display;
 use crate::options::{Chosen, List};
-use crate::pack::counted;
 use crate::progress::Progress;
 use crate::{files, Failure, Outcome};
 use std::io::{self, BufWriter, IsTerminal, Write};
@@ -24,7 +23,7 @@ fn accepted(path: &Path) -> Result<Pool, Failure> {
 
 pub fn check(path: &Path) -> Result<Outcome, Failure> {
     let pool = accepted(path)?;
-    print(&format!("{}: accepted ({})\n", files::name(path), counted(&pool)))?;
+    print(&format!("{}: accepted ({})\n", files::name(path), pool.counted()))?;
     Ok(Outcome::Done)
 }
 
@@ -87,7 +86,7 @@ pub fn list(list: &List) -> Result<Outcome, Failure> {
         say(&format!("{} has no declarations", files::name(&list.file)));
     }
     let display = Display { escapes: io::stdout().is_terminal() && !list.raw, numbers: list.numbers };
-    let mut out = BufWriter::with_capacity(1 << 16, io::stdout().lock());
+    let mut out = BufWriter::with_capacity(1 << 16, output()?);
     let (mut areas, mut progress) = (Areas::default(), Progress::new(roots.len(), list.progress));
     let (mut outcome, mut first) = (Outcome::Done, true);
     for &root in &roots {

@@ -1,4 +1,5 @@
 //! The statement lister as a command: `tilusorgu help`.
+mod closed;
 mod console;
 mod display;
 mod files;

@@ -24,7 +24,7 @@ tilusorgu pack FILE.txt [OPTION]..   makes a pool file of a text form
     --no-share                    each row typed is a row of its own, even if it equals another
 tilusorgu help, tilusorgu version
 
---width 80 and --width=80 are the same. FILE is a pool file, or - for standard input. Listings are separated by an empty line.
+--width 80 and --width=80 are the same. FILE is a pool file, or - for standard input; after -- a FILE may begin with -. Listings are separated by an empty line.
 On a terminal control characters and bidirectional marks of names and literals are shown as escapes; a pipe or a file gets the bytes.
 Status: 0 done; 1 something was refused; 2 wrong command line, wrong file, or no such name.
 docs/POOL-FILE.md has the pool file and the text form.
@@ -69,6 +69,8 @@ fn wrong<T>(what: impl Into<String>) -> Result<T, Failure> {
 struct Words {
     rest: std::vec::IntoIter<OsString>,
     file: Option<PathBuf>,
+    /// After -- no word is an option.
+    options_end: bool,
     /// What stood behind the = of the last option.
     joined: Option<OsString>,
 }
@@ -81,7 +83,8 @@ impl Words {
         }
         for word in self.rest.by_ref() {
             match word.to_str() {
-                Some(option) if option.starts_with('-') && option != "-" => {
+                Some("--") if !self.options_end => self.options_end = true,
+                Some(option) if option.starts_with('-') && option != "-" && !self.options_end => {
                     let (name, value) = option.split_once('=').map_or((option, None), |(name, value)| (name, Some(value.into())));
                     self.joined = value;
                     return Ok(Some(name.to_string()));
@@ -122,7 +125,7 @@ pub fn parse(arguments: Vec<OsString>) -> Result<Command, Failure> {
     let Some(command) = rest.next() else {
         return wrong("a command is expected: check, list or pack");
     };
-    let mut words = Words { rest, file: None, joined: None };
+    let mut words = Words { rest, file: None, options_end: false, joined: None };
     match command.to_str() {
         Some("help" | "--help" | "-h") => Ok(Command::Help),
         Some("version" | "--version" | "-V") => Ok(Command::Version),

@@ -4,7 +4,6 @@ use crate::options::Pack;
 use crate::{files, Failure, Outcome};
 use std::path::PathBuf;
 use tilusorgu::text::{self, Packed};
-use tilusorgu::{Pool, Table};
 
 pub fn pack(pack: &Pack) -> Result<Outcome, Failure> {
     let out = target(pack)?;
@@ -31,17 +30,8 @@ fn target(pack: &Pack) -> Result<PathBuf, Failure> {
     Ok(out)
 }
 
-/// How many rows each table has.
-pub fn counted(pool: &Pool) -> String {
-    let many = |t: Table| match pool.count(t) {
-        1 => format!("1 {}", t.row_name()),
-        n => format!("{n} {}s", t.row_name()),
-    };
-    Table::ALL.map(many).join(", ")
-}
-
 fn report(out: &str, packed: &Packed) -> String {
-    let mut lines = format!("{out}: {}\n", counted(&packed.pool));
+    let mut lines = format!("{out}: {}\n", packed.pool.counted());
     for (short, row) in &packed.defined {
         lines += &format!("{}: expression row {row}\n", shown(short));
     }

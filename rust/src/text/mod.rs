@@ -52,6 +52,9 @@ pub struct Packed {
 
 /// The pool of a text. It is not checked: a text may mean a pool that is refused.
 pub fn pack(text: &str, sharing: Sharing) -> Result<Packed, Mistake> {
+    if text.starts_with('\u{feff}') {
+        return mistake(At { line: 1, column: 1 }, "the text begins with a byte order mark (U+FEFF): save it as UTF-8 without one");
+    }
     // items nest up to reader::MOST_NESTED deep, and so do the functions that read them
     with_stack(|| forms::packed(&reader::items(text)?, sharing))
 }

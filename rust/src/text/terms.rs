@@ -43,6 +43,15 @@ fn digits(word: &str) -> bool {
     !word.is_empty() && word.bytes().all(|b| b.is_ascii_digit())
 }
 
+/// Does this look like a group of binders? No term does.
+fn is_group(item: &Item) -> bool {
+    match &item.kind {
+        Kind::List(Bracket::Round, parts) => parts.iter().any(|part| part.word() == Some(":")),
+        Kind::List(..) => true,
+        _ => false,
+    }
+}
+
 impl Terms {
     pub fn new(builder: Builder) -> Terms {
         Terms { builder, defined: HashMap::new(), scope: Vec::new() }
@@ -238,6 +247,10 @@ impl Terms {
         let [groups @ .., body] = parts else {
             return mistake(item.at, "binders and a body are expected: (forall (x : TYPE) BODY), and the same with fun");
         };
+        if is_group(body) {
+            let what = "a body is missing here: what a forall or a fun ends with is not one more binder, as in (forall (x : TYPE) BODY)";
+            return mistake(body.at, what);
+        }
         let outside = self.scope.len();
         let mut binders = Vec::new();
         for group in groups {
@@ -303,7 +316,7 @@ impl Terms {
     fn let_in(&mut self, item: &Item, parts: &[Item], nondep: u32) -> Result<u32, Mistake> {
         let what = "a let is (let (x : TYPE := VALUE) BODY), and the same with have";
         let [head, body] = parts else {
-            return mistake(item.at, what);
+            return mistake(item.at, if parts.len() == 1 { format!("a body is missing here: {what}") } else { what.to_string() });
         };
         let Some([bound, colon, type_, becomes, value]) = head.list(Bracket::Round) else {
             return mistake(head.at, what);
