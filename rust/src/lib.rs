@@ -8,6 +8,7 @@
 //! assert_eq!(listing.text, "axiom k (n : @Nat) : @P n");
 //! ```
 pub mod calls;
+mod declar_names;
 mod listing;
 mod pool;
 pub mod pool_file;
@@ -19,6 +20,7 @@ mod stack;
 pub mod text;
 
 pub use calls::{Counts, Given, Lent, Root, Sizes};
+pub use declar_names::DeclarNames;
 pub use listing::{Areas, Listing};
 pub use pool::{Pool, Table};
 pub use refusal::Refusal;

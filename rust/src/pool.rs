@@ -1,7 +1,6 @@
 //! Pools, their tables, and what to say of a row.
 use crate::refusal::Refusal;
 use crate::rules::rule;
-use std::borrow::Cow;
 
 /// Rows that a table may have.
 const MOST_ROWS: u32 = 65_536;
@@ -76,63 +75,6 @@ impl Pool {
         self.bytes.get(at..at.checked_add(length)?)
     }
 
-    /// The components of a name row, numbers as digits, the first one first. Nothing if the rows do not hold.
-    fn components(&self, row: u32) -> Option<Vec<Cow<'_, [u8]>>> {
-        let (mut components, mut at) = (Vec::new(), row);
-        loop {
-            let r = self.row(Table::Names, u64::from(at))?;
-            components.push(match r[0] {
-                0 => break,
-                1 => Cow::Borrowed(self.string(r[2])?),
-                _ => Cow::Owned((u64::from(r[2]) | u64::from(r[3]) << 32).to_string().into_bytes()),
-            });
-            // a prefix is a lower row, so this ends
-            at = Some(r[1]).filter(|&prefix| prefix < at)?;
-        }
-        components.reverse();
-        Some(components)
-    }
-
-    /// The pieces whose bytes are the name's text as listings have it, without the marks « »: components joined by ".", none after an
-    /// empty text. A name can be far longer than the pool, so it is not put together here.
-    fn name_pieces(&self, row: u32) -> Option<Vec<Cow<'_, [u8]>>> {
-        let (mut pieces, mut empty) = (Vec::new(), true);
-        for component in self.components(row)? {
-            if !empty {
-                pieces.push(Cow::Borrowed(&b"."[..]));
-            }
-            empty = empty && component.is_empty();
-            pieces.push(component);
-        }
-        Some(pieces)
-    }
-
-    fn declar_pieces(&self, row: u32) -> Option<Vec<Cow<'_, [u8]>>> {
-        self.name_pieces(self.row(Table::Declars, u64::from(row))?[1])
-    }
-
-    /// Is this the name of a declaration row as listings have it, without the marks « »?
-    pub fn declar_has_name(&self, row: u32, name: &str) -> bool {
-        let Some(pieces) = self.declar_pieces(row) else {
-            return false;
-        };
-        let rest = pieces.iter().try_fold(name.as_bytes(), |rest, piece| rest.strip_prefix(&piece[..]));
-        rest.is_some_and(<[u8]>::is_empty)
-    }
-
-    /// The name of a declaration row for a message: at most so many bytes of it, then two dots.
-    pub fn declar_title(&self, row: u32, most: usize) -> Option<String> {
-        let mut title = Vec::new();
-        for piece in self.declar_pieces(row)? {
-            let room = most - title.len();
-            title.extend(piece.iter().take(room));
-            if piece.len() > room {
-                return Some(String::from_utf8_lossy(&title).into_owned() + "..");
-            }
-        }
-        Some(String::from_utf8_lossy(&title).into_owned())
-    }
-
     /// The table in which a pool is refused 3 or 4: the first one with which, the tables after it left out, it still is.
     pub fn faulty_table(&self, refusal: Refusal) -> Option<Table> {
         match refusal.number {
@@ -177,7 +119,13 @@ impl Pool {
 
     /// How many rows each table has, in words.
     pub fn counted(&self) -> String {
-        Table::ALL.map(|t| counted(self.count(t), t)).join(", ")
+        Table::ALL.map(|t| self.count_in_words(t)).join(", ")
+    }
+
+    /// How many rows a table has, in words.
+    pub fn count_in_words(&self, table: Table) -> String {
+        let count = self.count(table);
+        format!("{count} {}{}", table.row_name(), if count == 1 { "" } else { "s" })
     }
 
     /// What the words' total is, and what the counts make it.
@@ -194,13 +142,8 @@ impl Pool {
     /// Which count is past its limit.
     fn past_limit(&self) -> String {
         match Table::ALL.into_iter().find(|&t| self.count(t) > MOST_ROWS) {
-            Some(table) => format!("it has {}, and at most {MOST_ROWS} rows are allowed in a table", counted(self.count(table), table)),
+            Some(table) => format!("it has {}, and at most {MOST_ROWS} rows are allowed in a table", self.count_in_words(table)),
             None => format!("its byte area has {} bytes, and at most {MOST_POOL_BYTES} are allowed", self.bytes.len()),
         }
     }
-}
-
-/// So many rows of a table, in words.
-fn counted(count: u32, table: Table) -> String {
-    format!("{count} {}{}", table.row_name(), if count == 1 { "" } else { "s" })
 }

@@ -1,6 +1,7 @@
 //! `check` and `list`.
 use crate::console::{failed, output, print, say, shown};
 use crate::display::Display;
+use crate::names::named;
 use crate::options::{Chosen, List};
 use crate::progress::Progress;
 use crate::{files, Failure, Outcome};
@@ -12,7 +13,7 @@ use tilusorgu::{Areas, Counts, Pool, Refusal, Root, Table};
 const TITLE: usize = 100;
 
 /// An accepted pool, of a file that standard output does not go to.
-fn accepted(path: &Path) -> Result<Pool, Failure> {
+pub fn accepted(path: &Path) -> Result<Pool, Failure> {
     files::apart(path, Path::new("-"))?;
     let pool = files::read_pool(path)?;
     match pool.check() {
@@ -29,22 +30,15 @@ pub fn check(path: &Path) -> Result<Outcome, Failure> {
 
 /// The roots to be listed, in the order of the command line; without any, all declarations.
 fn roots(pool: &Pool, chosen: &[Chosen]) -> Result<Vec<Root>, Failure> {
-    let all = 0..pool.count(Table::Declars);
     if chosen.is_empty() {
-        return Ok(all.map(Root::Declar).collect());
+        return Ok((0..pool.count(Table::Declars)).map(Root::Declar).collect());
     }
-    let mut roots = Vec::new();
+    let (mut roots, mut index) = (Vec::new(), None);
     for one in chosen {
         match one {
             Chosen::Declar(row) => roots.push(Root::Declar(*row)),
             Chosen::Expr(row) => roots.push(Root::Expr(*row)),
-            Chosen::Name(name) => {
-                let before = roots.len();
-                roots.extend(all.clone().filter(|&row| pool.declar_has_name(row, name)).map(Root::Declar));
-                if roots.len() == before {
-                    return Err(Failure::Trouble(format!("no declaration is named {} (the pool has {} declarations)", shown(name), all.len())));
-                }
-            }
+            Chosen::Name(name) => roots.extend(named(pool, &mut index, name)?),
         }
     }
     Ok(roots)

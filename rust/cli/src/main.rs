@@ -4,6 +4,7 @@ mod console;
 mod display;
 mod files;
 mod list;
+mod names;
 mod options;
 mod pack;
 mod progress;
@@ -46,6 +47,7 @@ fn run(arguments: Vec<std::ffi::OsString>) -> ExitCode {
         Command::Version => console::print(concat!("tilusorgu ", env!("CARGO_PKG_VERSION"), "\n")).map(|()| Outcome::Done),
         Command::Check(file) => list::check(&file),
         Command::List(list) => list::list(&list),
+        Command::Names(file) => names::names(&file),
         Command::Pack(pack) => pack::pack(&pack),
     });
     match outcome {

@@ -8,8 +8,10 @@ use tilusorgu::Sizes;
 
 pub const HELP: &str = "\
 tilusorgu check FILE              is the pool accepted?
+tilusorgu names FILE              row, kind and name of every declaration, a line each
 tilusorgu list FILE [OPTION]..    lists declarations and expressions of a pool
-    --declar NAME|ROW             this declaration, by its row or by its name as listings have it (all of that name); may be repeated
+    --declar NAME|ROW             this declaration, by its row, or by its name as a listing shows it or as pack reads it
+                                  (all of that name); may be repeated
     --expr ROW                    this expression; may be repeated
                                   (without --declar and --expr: all declarations)
     --indent N                    spaces of a step of indentation, 0 to 64 (2)
@@ -34,6 +36,7 @@ pub enum Command {
     Help,
     Version,
     Check(PathBuf),
+    Names(PathBuf),
     List(List),
     Pack(Pack),
 }
@@ -123,19 +126,25 @@ fn number(option: &str, text: &str) -> Result<u32, Failure> {
 pub fn parse(arguments: Vec<OsString>) -> Result<Command, Failure> {
     let mut rest = arguments.into_iter();
     let Some(command) = rest.next() else {
-        return wrong("a command is expected: check, list or pack");
+        return wrong("a command is expected: check, names, list or pack");
     };
-    let mut words = Words { rest, file: None, options_end: false, joined: None };
+    let words = Words { rest, file: None, options_end: false, joined: None };
     match command.to_str() {
         Some("help" | "--help" | "-h") => Ok(Command::Help),
         Some("version" | "--version" | "-V") => Ok(Command::Version),
-        Some("check") => match words.option()? {
-            Some(option) => unknown(&option, "check"),
-            None => Ok(Command::Check(words.file()?)),
-        },
+        Some("check") => file_alone(words, "check", Command::Check),
+        Some("names") => file_alone(words, "names", Command::Names),
         Some("list") => list(words),
         Some("pack") => pack(words),
         _ => wrong(format!("there is no command {}", command.to_string_lossy())),
+    }
+}
+
+/// A command that takes a file and nothing else.
+fn file_alone(mut words: Words, name: &str, command: fn(PathBuf) -> Command) -> Result<Command, Failure> {
+    match words.option()? {
+        Some(option) => unknown(&option, name),
+        None => Ok(command(words.file()?)),
     }
 }
 
@@ -166,13 +175,12 @@ fn list(mut words: Words) -> Result<Command, Failure> {
     Ok(Command::List(List { file: words.file()?, chosen, sizes, counts, numbers, raw, progress }))
 }
 
-/// Digits are a row; a name may stand in the marks that listings put round odd ones.
+/// Digits alone are a row.
 fn declar(text: String) -> Result<Chosen, Failure> {
     if !text.is_empty() && text.bytes().all(|b| b.is_ascii_digit()) {
         return Ok(Chosen::Declar(number("--declar", &text)?));
     }
-    let bare = text.strip_prefix('«').and_then(|t| t.strip_suffix('»'));
-    Ok(Chosen::Name(bare.unwrap_or(&text).to_string()))
+    Ok(Chosen::Name(text))
 }
 
 fn pack(mut words: Words) -> Result<Command, Failure> {

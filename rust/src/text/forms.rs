@@ -5,7 +5,8 @@ use super::terms::{name, number, Terms};
 use super::{mistake, names, Mistake, Packed, Sharing};
 use crate::pool::Table;
 
-const DECLARATIONS: [&str; 8] = ["axiom", "quotient", "theorem", "def", "opaque", "inductive", "constructor", "recursor"];
+/// The words for the kinds of declarations, in the order of the kinds.
+pub const DECLARATIONS: [&str; 8] = ["axiom", "quotient", "theorem", "def", "opaque", "inductive", "constructor", "recursor"];
 const TABLES: [&str; 7] = ["strings", "names", "levels", "lists", "list-words", "expressions", "declarations"];
 
 pub fn packed(items: &[Item], sharing: Sharing) -> Result<Packed, Mistake> {

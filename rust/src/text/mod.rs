@@ -2,9 +2,11 @@
 //! `builder`).
 mod builder;
 mod forms;
-mod names;
+pub(crate) mod names;
 mod reader;
 mod terms;
+
+pub(crate) use forms::DECLARATIONS;
 
 use crate::pool::Pool;
 use crate::stack::with_stack;

@@ -1,4 +1,5 @@
 //! Names as they are typed: components joined by ".", odd ones in « », numbers as digits, `_` for the anonymous one.
+use super::reader::ends_word;
 
 #[derive(Clone, Debug, PartialEq, Eq)]
 pub enum Component {
@@ -42,9 +43,39 @@ fn first<'a>(rest: &'a str, word: &str) -> Result<(Component, &'a str), String> 
     Ok((Component::Text(text.to_string()), after))
 }
 
+/// The word whose name this is, marks only where they are needed. (No word has a component with both » and something that needs marks.)
+pub fn typed(name: &Name) -> String {
+    match name.as_slice() {
+        [] => "_".to_string(),
+        [Component::Text(text)] if text == "_" => "«_»".to_string(),
+        _ => name.iter().map(component).collect::<Vec<_>>().join("."),
+    }
+}
+
+fn component(one: &Component) -> String {
+    match one {
+        Component::Number(n) => n.to_string(),
+        // -- would start a comment
+        Component::Text(text) if text.starts_with("--") || text.contains(ends_word) || first(text, text) != Ok((one.clone(), "")) => {
+            format!("«{text}»")
+        }
+        Component::Text(text) => text.clone(),
+    }
+}
+
 #[cfg(test)]
 mod tests {
     use super::*;
+
+    #[test]
+    fn typed_names_come_back() {
+        let of = |word: &str| typed(&parse(word).unwrap());
+        for word in ["_", "«_»", "a.b", "a.«b. c».5.«5».«»", "«»", "7", "«a,b»", "«(».x", "a._", "x._@.M.1._hyg.2", "α.x₈", "«--a»", "a»b", "#x"]
+        {
+            assert_eq!(of(word), word);
+        }
+        assert_eq!((of("«a».«b»"), of("007.«x y»")), ("a.b".to_string(), "7.«x y»".to_string()));
+    }
 
     #[test]
     fn forms() {

@@ -60,6 +60,11 @@ impl Item {
     }
 }
 
+/// Does this character, outside « », end a word?
+pub fn ends_word(c: char) -> bool {
+    c.is_whitespace() || ",(){}[]\"".contains(c)
+}
+
 /// All items of a text.
 pub fn items(text: &str) -> Result<Vec<Item>, Mistake> {
     let mut reader = Reader { rest: text, at: At { line: 1, column: 1 }, nested: 0 };
@@ -171,7 +176,7 @@ impl Reader<'_> {
                 let levels = Some(self.nested(Bracket::Curly, self.at, Commas::Between)?);
                 return Ok(Kind::Word { text, levels });
             }
-            if c.is_whitespace() || ",(){}[]\"".contains(c) {
+            if ends_word(c) {
                 break;
             }
             text.push(c);

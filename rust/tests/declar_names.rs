@@ -1,0 +1,34 @@
+//! Declarations found by their names.
+use tilusorgu::text::{pack, Sharing};
+use tilusorgu::{DeclarNames, Pool};
+
+/// A pass over all declarations for each of these names would take some minutes.
+#[test]
+fn each_of_twenty_thousand() {
+    let text: String = (0..20_000).map(|i| format!("(axiom Register.some_lemma_{i}.extended @C)")).collect();
+    let pool = pack(&text, Sharing::Shared).unwrap().pool;
+    let names = DeclarNames::new(&pool);
+    for i in 0..20_000 {
+        assert_eq!(names.find(&format!("Register.some_lemma_{i}.extended")), [i]);
+    }
+    assert!(names.find("Register.some_lemma_20000.extended").is_empty());
+    assert_eq!(names.near("Register.some_lemma_777.extendet").as_deref(), Some("Register.some_lemma_777.extended"));
+}
+
+/// Names of 63 components, each of them the same 20,000 bytes: together they have six gigabytes.
+#[test]
+fn names_longer_than_the_pool() {
+    let length = 20_000;
+    let names: Vec<u32> = std::iter::once([0; 4]).chain((0..63).map(|i| [1, i, 0, 0])).flatten().collect();
+    let mut words = vec![1, 64, 0, 1, 0, 1, 5_000, 0, length];
+    words.extend(names);
+    words.extend([0, 0, 2, 0, 0, 0, 0, 0, 1, 0]);
+    words.extend((0..5_000).flat_map(|i| [0, if i == 7 { 63 } else { 62 }, 0, 0, 0]));
+    let pool = Pool { bytes: vec![b'n'; length as usize], words };
+    assert_eq!(pool.check(), Ok(()));
+    let index = DeclarNames::new(&pool);
+    let long = vec!["n".repeat(length as usize); 63].join(".");
+    assert_eq!(index.find(&long), [7]);
+    assert!(index.find(&long[1..]).is_empty() && index.near("n").is_none());
+    assert_eq!(pool.declar_typed(0, 10).as_deref(), Some("nnnnnnnnnn.."));
+}
