@@ -13,14 +13,15 @@ static const uint32_t words[] = {
     0, 1, 0, 0, 0                        /* declarations: the axiom k of that type */
 };
 
-/* Long enough for every document, and for every listing of this pool. */
-static uint32_t rows[TILUSORGU_ROW_WORDS * TILUSORGU_DOCUMENT_ROWS];
-static uint8_t text[TILUSORGU_DOCUMENT_BYTES];
-static uint8_t listing[4096];
+/* Areas for documents of so many rows and text bytes: a longer one is refused 20 or 21, and none is refused 22. */
+enum { ROWS = 1024, TEXT_BYTES = 4096, INDENT = 2, WIDTH = 80 };
+static uint32_t rows[TILUSORGU_ROW_WORDS * ROWS];
+static uint8_t text[TEXT_BYTES];
+static uint8_t listing[TILUSORGU_LISTING_BYTES(ROWS, TEXT_BYTES, INDENT)];
 
 static int print_declar(uint32_t root) {
     uint64_t out[TILUSORGU_OUT];
-    uint32_t number = tilusorgu_print_declar(bytes, sizeof bytes, words, sizeof words / sizeof *words, root, 2, 80, rows,
+    uint32_t number = tilusorgu_print_declar(bytes, sizeof bytes, words, sizeof words / sizeof *words, root, INDENT, WIDTH, rows,
                                              sizeof rows / sizeof *rows, text, sizeof text, listing, sizeof listing, out, TILUSORGU_OUT);
     if (number != TILUSORGU_DONE) {
         printf("refused %" PRIu32 ", place %" PRIu64 "\n", number, out[1]);

@@ -64,6 +64,28 @@ enum tilusorgu_number {
 #define TILUSORGU_OUT 8u                 /* numbers of `out` */
 
 /*
+ * Bytes that are enough for every listing of a document of at most so many rows and text bytes, with nest amounts of at most
+ * `indent`: a listing area of this length is never too short (22). A print's document has no more rows (row_words / 7) and text bytes
+ * than the areas that it was lent, else 20 or 21, and its nest amounts are the print's indent; those of a document that is given to
+ * tilusorgu_layout are at most TILUSORGU_INDENT. A listing is written from its area's start and nothing past it is touched, so of a
+ * long area that the system gives page by page only what is written costs memory.
+ *
+ * Why it is enough. A listing has each text once, and for each break at most one blank, or a newline and its nest in spaces, which is
+ * at most `indent` for each nest row. Texts and breaks are the leaves of a tree whose joins have two parts, so of r rows with b breaks
+ * at least b - 1 are joins and at most r + 1 - 2b are nests: all breaks together have at most b * (1 + indent * (r + 1 - 2b)) bytes.
+ * Whatever b is, that is at most indent * (r + 1)^2 / 8 + (r + 1) / 2, and 1 makes up for the divisions.
+ *
+ * What is past a limit counts as the limit, so nothing overflows, nor does a size_t of 32 bits: the greatest value, for 16,384 rows,
+ * 65,536 bytes and indent 64, is 2,147,819,529; with indent 2 it is 67,190,785. With constants it is one, and can be an array's length;
+ * `rows` and the others are evaluated more than once.
+ */
+#define TILUSORGU_LISTING_BYTES(rows, text_bytes, indent)                                                                     \
+    ((size_t)(TILUSORGU_AT_MOST(text_bytes, TILUSORGU_DOCUMENT_BYTES) + 1u + TILUSORGU_ROWS_AND_1(rows) / 2u +                 \
+              TILUSORGU_ROWS_AND_1(rows) * TILUSORGU_ROWS_AND_1(rows) * TILUSORGU_AT_MOST(indent, TILUSORGU_INDENT) / 8u))
+#define TILUSORGU_ROWS_AND_1(rows) (TILUSORGU_AT_MOST(rows, TILUSORGU_DOCUMENT_ROWS) + 1u)
+#define TILUSORGU_AT_MOST(n, most) ((uint64_t)(n) < (uint64_t)(most) ? (uint64_t)(n) : (uint64_t)(most))
+
+/*
  * A pool is a byte area and words: seven head words, the counts of strings, names, levels, lists, list words, expressions and
  * declarations, each at most 65,536; then these tables in that order, with 2, 4, 3, 2, 1, 8 and 5 words a row. Rows number from
  * 0, and unused words are 0. docs/POOL-FILE.md has the tables, row by row.
