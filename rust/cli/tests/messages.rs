@@ -115,6 +115,37 @@ fn library_folders() {
     }
 }
 
+/// A repository whose `rt` is this shell script: what `build-library` says and how it ends.
+fn built_by(name: &str, rt: &str) -> (String, String, i32) {
+    let place = folder(name);
+    for (path, text) in [("crates.txt", ""), ("crates/c/src/f", ""), ("crates/c/specs/f", ""), ("crates/c/proofs/f", ""), ("bin/rt", rt)] {
+        std::fs::create_dir_all(place.join(path).parent().unwrap()).unwrap();
+        std::fs::write(place.join(path), text).unwrap();
+    }
+    std::fs::create_dir_all(place.join("rust")).unwrap();
+    std::fs::copy(top().join("rust/build-library"), place.join("rust/build-library")).unwrap();
+    std::fs::set_permissions(place.join("bin/rt"), std::os::unix::fs::PermissionsExt::from_mode(0o755)).unwrap();
+    let path = format!("{}:{}", place.join("bin").display(), std::env::var("PATH").unwrap());
+    said(Command::new(place.join("rust/build-library")).env("PATH", path).env_remove("TILUSORGU_LIB_DIR").output().unwrap())
+}
+
+#[test]
+fn building_is_not_silent() {
+    let rt = "#!/bin/sh\nmkdir -p target/log target/staticlib\necho 'rt: basics proved (2 s)'\necho 'noise'\n>target/log/pool.say\nsleep 7\n\
+              date >target/staticlib/liblister_c.a\n";
+    let _ = std::fs::remove_dir_all(folder("not_silent"));
+    let (output, messages, status) = built_by("not_silent", rt);
+    let lines: Vec<&str> = messages.lines().collect();
+    assert!(output.is_empty() && status == 0 && lines.len() == 4, "{messages}");
+    assert!(lines[0].contains("some 10 minutes"), "{messages}");
+    assert_eq!(lines[1..3], ["build-library: basics proved (2 s)", "build-library: 3 s so far: at pool"]);
+    assert!(lines[3].starts_with("build-library: made target/staticlib/liblister_c.a in "), "{messages}");
+    // it is made once
+    assert_eq!(built_by("not_silent", rt), (String::new(), String::new(), 0));
+    let (_, messages, status) = built_by("not_proved", "#!/bin/sh\necho 'rt: basics NOT PROVED'\nexit 1\n");
+    assert!(messages.contains("\nrt: basics NOT PROVED\nbuild-library: rt did not make the library") && status == 1, "{messages}");
+}
+
 #[test]
 fn help_names_all_commands() {
     let (help, ..) = run(&["help"]);
