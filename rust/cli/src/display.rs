@@ -32,11 +32,13 @@ impl Display {
         let row = String::from_utf8_lossy(row);
         let row = if self.escapes { shown(&row) } else { row.into_owned() };
         for (i, line) in row.split('\n').enumerate() {
-            match (self.numbers, i) {
-                (false, _) => writeln!(out, "{line}")?,
-                (true, 0) => writeln!(out, "{number:width$} | {line}")?,
-                (true, _) => writeln!(out, "{:width$} + {line}", "")?,
-            }
+            let margin = match (self.numbers, i) {
+                (false, _) => String::new(),
+                (true, 0) => format!("{number:width$} |"),
+                (true, _) => format!("{:width$} +", ""),
+            };
+            let between = if margin.is_empty() || line.is_empty() { "" } else { " " };
+            writeln!(out, "{margin}{between}{line}")?;
         }
         Ok(())
     }

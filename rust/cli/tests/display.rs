@@ -34,7 +34,7 @@ fn nothing_else_is_escaped() {
 fn numbers_tell_rows_from_newlines_of_texts() {
     let path = pool_file("numbers.pool", HOSTILE);
     let words = ["list", path.to_str().unwrap(), "--width", "30", "--numbers"];
-    let piped = "  1 | theorem k :\n  2 |   @P\n  3 |     \"x\n    + \n    + axiom forged : @False\"\n  4 |     @«\u{202e}a\u{1b}[2Jb\r» :=\n  5 |   @«\u{85}c\u{2067}\u{2028}»\n\n  1 | axiom m : @C\n";
+    let piped = "  1 | theorem k :\n  2 |   @P\n  3 |     \"x\n    +\n    + axiom forged : @False\"\n  4 |     @«\u{202e}a\u{1b}[2Jb\r» :=\n  5 |   @«\u{85}c\u{2067}\u{2028}»\n\n  1 | axiom m : @C\n";
     assert_eq!(run(&words), (piped.to_string(), String::new(), 0));
     assert_eq!(on_terminal(&[&words[..], &["--raw"]].concat()), (piped.to_string(), 0));
     // on a terminal no newline of a text is left
