@@ -32,6 +32,7 @@ fn share_and_time_left_while_a_file_is_written() {
     assert_eq!(errors_on_terminal(&listing, &many(path, 60, &["--quiet"])), (String::new(), 0));
     // a pipe may be a pager on the same terminal
     assert_eq!(errors_on_terminal(Path::new("|"), &many(path, 60, &[])), (String::new(), 0));
+    std::fs::remove_file(&slow).unwrap();
 }
 
 #[test]
