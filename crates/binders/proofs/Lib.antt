@@ -6,7 +6,6 @@ pub mod NamingLaws
 pub mod GroupingLaws
 pub mod LeafLaws
 pub mod LoopLaws
-pub mod WordLaws
 pub mod RenameLaws
 pub mod ScopeLaws
 pub mod DropLaws

@@ -7,7 +7,7 @@ use lib.Dec.{eqb}
 use lib.ListN.{length}
 use Rattle.document.specs.Walk.{Marked, names}
 use Rattle.pool.specs.Tree.{Name, Expr, var, sort, const, app, pi, lam, letᵉ, proj, nat, str, lift, occurs, same}
-use Rattle.pieces.specs.Docs.{_⊹_, quoted, line, G, NG, Parenable, withInner, under, tile}
+use Rattle.pieces.specs.Docs.{_⊹_, quoted, line, G, NG, Parenable, withInner, under, tile, opening, closing}
 use Rattle.binders.specs.Runs.{runs, leading}
 use Rattle.names.specs.Names.{nameDoc, isAnonymous, isHygienic}
 use Rattle.binders.specs.Options.{PpOptions}
@@ -81,19 +81,6 @@ goesAlong b c = (isNamedPi b && isNamedPi c) || (isLambda b && isLambda c)
 -- "each the leading run of equal style and equal type tree after lifting (all fields); an instance binder is alone"
 unfoldable pub sameGroup : Binder → Binder → Bool
 sameGroup b c = not (eqb (b .style) 3) && (eqb (b .style) (c .style) && same (b .type) (c .type))
-
--- "brackets ( ), { }, {{ }}, [ ]" by style
-unfoldable pub opening : ℕ → Marked
-opening zero = quoted "("
-opening (suc zero) = quoted "{"
-opening (suc (suc zero)) = quoted "{{"
-opening (suc (suc (suc k))) = quoted "["
-
-unfoldable pub closing : ℕ → Marked
-closing zero = quoted ")"
-closing (suc zero) = quoted "}"
-closing (suc (suc zero)) = quoted "}}"
-closing (suc (suc (suc k))) = quoted "]"
 
 -- "An anonymous name whose variable does not occur prints "_"."
 unfoldable pub binderName : Binder → Marked

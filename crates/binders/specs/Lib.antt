@@ -9,5 +9,4 @@ pub mod Leaves
 pub mod Rename
 pub mod Scopes
 pub mod Steps
-pub mod Puts
 pub mod Asked

@@ -132,3 +132,7 @@ nameDocs (suc n) e = binderName (firstBinder e) ∷ nameDocs n (dropChain 1 e)
 unfoldable pub partLength : Bool → Expr → ℕ
 partLength true e = 1
 partLength false e = runLength (firstBinder e .isPi) e
+
+-- the level of an arrow binder and what follows it, and of a run of others
+unfoldable pub levelOf : Bool → ℕ
+levelOf arrow = cond arrow 24 0

@@ -1,9 +1,8 @@
-// What the printers of expressions are made of: the stack of names, variables, chains, runs and groups of binders, and constant pieces.
+// What the printers of expressions are made of: the stack of names, variables, chains, runs and groups of binders.
 pub mod chain;
 pub mod group;
 pub mod leaves;
 pub mod printer;
-pub mod puts;
 pub mod runs;
 pub mod stack;
 pub mod vars;

@@ -26,7 +26,7 @@ ghost use Rattle.pool.specs.Unfold.{exprAt};
 ghost use Rattle.document.specs.Sink.{Leaves, emit};
 ghost use Rattle.binders.specs.Binders.{isArrow, binderName};
 ghost use Rattle.binders.specs.Asked.{Pooled, RunEnd, PartEnd};
-ghost use Rattle.binders.specs.Puts.{levelOf};
+ghost use Rattle.binders.specs.Steps.{levelOf};
 ghost use Rattle.binders.specs.Steps.{binderKind, isBinder, firstBinder, inRun};
 
 // Whether the variable of the binder at row r occurs in its body.

@@ -31,7 +31,7 @@ use Rattle.binders.specs.Scopes.{namesBelow, namesOf, placeIn, Linked, Held, sc
 use Rattle.binders.specs.Asked.{Pooled, Asked, InChain, ChainPushed, RunEnd}
 use Rattle.declarations.specs.Declars.{keyword, info, Taken, taken, defRest, axiomRest, mainDef, mainAxiom, declarDoc}
 use Rattle.binders.specs.Steps.{isBinder, inRun, runLength, chainLength, dropChain}
-use Rattle.binders.specs.Puts.{joinPiece}
+use Rattle.pieces.specs.Puts.{joinPiece}
 use Rattle.pretty_printer.specs.Parts.{printed, inScope, chainPart, groupsPart}
 use Rattle.declarations.specs.Heads.{Declared, TakenEnd, headPart, typePart, valuePart, defPart, defStart, defParts, axiomPart, axiomStart}
 use Rattle.binders.proofs.RenameLaws.{rename-agrees, rename-same, lift-adds}

@@ -10,7 +10,7 @@ use Rattle.document.specs.Stored.{Fine}
 use Rattle.document.specs.Walk.{Marked, textᵐ, nestᵐ, unmarked}
 use Rattle.pool.specs.Tree.{Name, Level, zeroˡ, succˡ, maxˡ, imaxˡ, paramˡ, Expr, var, sort, const, app, pi, lam, letᵉ, proj, nat, str, Declar, typed, valued}
 use Rattle.pool.specs.Tree.{lift, depth}
-use Rattle.pieces.specs.Docs.{_⊹_, quoted, line, G, Parenable, withInner, under, tile, tileFrom, numberDoc}
+use Rattle.pieces.specs.Docs.{_⊹_, quoted, line, G, Parenable, withInner, under, tile, tileFrom, numberDoc, opening, closing}
 use Rattle.names.specs.Names.{nameDoc, nameText, isAnonymous, hasOdd}
 use Rattle.levels.specs.Levels.{plus, maxPar, succsPar, levelPar, sortDoc, levelsDoc}
 use Rattle.binders.specs.Runs.{runs, leading, following}
@@ -24,8 +24,6 @@ use Rattle.binders.specs.Binders.{
   isNamedPi,
   sameGroup,
   goesAlong,
-  opening,
-  closing,
   binderName,
   groupDoc,
   telescope,

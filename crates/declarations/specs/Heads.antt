@@ -18,7 +18,7 @@ use Rattle.binders.specs.Binders.{binders}
 use Rattle.declarations.specs.Declars.{keyword, info, canLeave, Taken, taken, defRest, axiomRest}
 use Rattle.binders.specs.Scopes.{scoped}
 use Rattle.binders.specs.Steps.{firstBinder, isBinder, inRun, chainLength, dropChain}
-use Rattle.binders.specs.Puts.{joinPiece}
+use Rattle.pieces.specs.Puts.{joinPiece}
 use Rattle.pretty_printer.specs.Parts.{printed, inScope, chainPart, groupsPart}
 use Rattle.binders.specs.Options.{PpOptions}
 

@@ -1,2 +1,3 @@
 pub mod WordTable
 pub mod Emitting
+pub mod WordLaws

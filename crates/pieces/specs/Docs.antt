@@ -59,3 +59,16 @@ digits n = digitsTo 20 n
 
 unfoldable pub numberDoc : ℕ → Marked
 numberDoc n = textᵐ (digits n)
+
+-- "brackets ( ), { }, {{ }}, [ ]" by style
+unfoldable pub opening : ℕ → Marked
+opening zero = quoted "("
+opening (suc zero) = quoted "{"
+opening (suc (suc zero)) = quoted "{{"
+opening (suc (suc (suc k))) = quoted "["
+
+unfoldable pub closing : ℕ → Marked
+closing zero = quoted ")"
+closing (suc zero) = quoted "}"
+closing (suc (suc zero)) = quoted "}}"
+closing (suc (suc (suc k))) = quoted "]"

@@ -4,3 +4,4 @@ pub mod Docs
 pub mod Words
 pub mod Parens
 pub mod Tiles
+pub mod Puts

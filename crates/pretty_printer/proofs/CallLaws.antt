@@ -31,10 +31,11 @@ use Rattle.binders.specs.Rename.{up, rename}
 use Rattle.binders.specs.Scopes.{entry, namesBelow, namesOf, placeIn, push, scoped, lastScope, Linked, Held, Grown}
 use Rattle.binders.specs.Asked.{ChainPushed}
 use Rattle.binders.specs.Steps.{spineDoc, firstBinder, mkBinder, chainLength}
-use Rattle.binders.specs.Puts.{joinPiece, joinLine, putColon}
+use Rattle.pieces.specs.Puts.{joinPiece, joinLine, putColon}
 use Rattle.pretty_printer.specs.Parts.{inScope, appPart, chainPart, letHead, letBody}
 use Rattle.binders.specs.Leaves.{leafKind, leafDoc}
-use Rattle.binders.specs.Puts.{endProj, startLet, putAssign, endLet, levelOf}
+use Rattle.pieces.specs.Puts.{endProj, startLet, putAssign, endLet}
+use Rattle.binders.specs.Steps.{levelOf}
 use Rattle.binders.proofs.RenameLaws.{rename-agrees, own-variable}
 use Rattle.binders.proofs.ScopeLaws.{chain-is-scoped, body-is-scoped, names-are-pushed, chain-under, grown-names, let-scope, push-last, push-grown}
 use Rattle.pretty_printer.proofs.ExprLaws.{prints-var, prints-sort, prints-const, prints-nat, prints-str, prints-proj, prints-app, prints-pi, prints-lam}

@@ -8,15 +8,15 @@ use lib.ListN.{length}
 use Rattle.document.specs.Walk.{Marked}
 use Rattle.document.specs.Sink.{State, putJoin, emit}
 use Rattle.pool.specs.Tree.{Expr, var, sort, const, app, pi, lam, letᵉ, proj, nat, str}
-use Rattle.pieces.specs.Docs.{_⊹_, quoted, line, G, NG, Parenable, withInner, under, tile, tileFrom}
+use Rattle.pieces.specs.Docs.{_⊹_, quoted, line, G, NG, Parenable, withInner, under, tile, tileFrom, opening, closing}
 use Rattle.pieces.specs.Tiles.{putTile}
 use Rattle.pieces.proofs.Emitting.{tile-emits}
 use Rattle.binders.specs.Runs.{leading, following, runs}
-use Rattle.binders.specs.Binders.{Binder, isArrow, goesAlong, sameGroup, opening, closing, binderName, groupDoc, telescope, arrowPar, forallPar, funPar, runPar, runsPar}
+use Rattle.binders.specs.Binders.{Binder, isArrow, goesAlong, sameGroup, binderName, groupDoc, telescope, arrowPar, forallPar, funPar, runPar, runsPar}
 use Rattle.binders.specs.Binders.{bindersPar}
 use Rattle.pretty_printer.specs.Exprs.{appHead, appArgs, appPar}
 use Rattle.binders.specs.Steps.{spineDoc}
-use Rattle.binders.specs.Puts.{joinPiece, joinLine, putColon, putArrow, startRun, markRun, endRun, endGroup}
+use Rattle.pieces.specs.Puts.{joinPiece, joinLine, putColon, putArrow, startRun, markRun, endRun, endGroup}
 use Rattle.binders.proofs.RunLaws.{runs-are-leading, runs-of-none}
 use Rattle.binders.proofs.GroupLaws.{arrow-alone}
 use Rattle.binders.specs.Options.{PpOptions}

@@ -20,7 +20,7 @@ use Rattle.binders.specs.Rename.{rename}
 use Rattle.binders.specs.Scopes.{placeIn, scoped, lastScope}
 use Rattle.binders.specs.Steps.{firstBinder, isBinder, inRun, runLength, partLength, dropChain, chainLength, mkBinder}
 use Rattle.pretty_printer.specs.Parts.{printed, inScope, chainPart, groupsPart, runPart}
-use Rattle.binders.specs.Puts.{levelOf}
+use Rattle.binders.specs.Steps.{levelOf}
 use Rattle.pretty_printer.proofs.ChainLaws.{leading-takes, following-drops, run-length}
 use Rattle.pretty_printer.proofs.EmitLaws.{no-binders, arrow-first, run-first, arrow-puts, run-puts}
 use Rattle.binders.proofs.ViewLaws.{first-made, length-made, scoped-made, body-none, scope-none, scoped-none}

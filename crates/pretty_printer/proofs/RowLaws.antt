@@ -25,10 +25,11 @@ use Rattle.binders.specs.Binders.{Binder, isArrow}
 use Rattle.binders.specs.Variables.{varDoc}
 use Rattle.binders.specs.Scopes.{namesOf, placeIn, push, scoped, Chained}
 use Rattle.binders.specs.Steps.{firstBinder, binderKind, partLength, chainLength, dropChain, nameDocs, groupLength}
-use Rattle.binders.specs.Puts.{putColon, putArrow, startRun, endRun, openGroup, closeGroup}
+use Rattle.pieces.specs.Puts.{putColon, putArrow, startRun, endRun, openGroup, closeGroup}
 use Rattle.pretty_printer.specs.Parts.{inScope, appPart, chainPart, groupsPart, runPart, letHead, letBody}
 use Rattle.binders.specs.Leaves.{leafKind, leafDoc}
-use Rattle.binders.specs.Puts.{endProj, startLet, putAssign, endLet, levelOf}
+use Rattle.pieces.specs.Puts.{endProj, startLet, putAssign, endLet}
+use Rattle.binders.specs.Steps.{levelOf}
 use Rattle.binders.proofs.ScopeLaws.{push-named, chain-length}
 use Rattle.binders.proofs.ViewLaws.{BinderRow, binder-at, binder-row, length-made, run-starts}
 use Rattle.binders.proofs.BinderLaws.{first-at}

@@ -11,15 +11,15 @@ use Rattle.document.specs.Sink.{State, putBreak, emit}
 use Rattle.pool.specs.Tables.{Pool}
 use Rattle.pool.specs.Tree.{Name, Expr, occurs}
 use Rattle.pool.specs.Unfold.{nameAt}
-use Rattle.pieces.specs.Docs.{Parenable, under, tile}
+use Rattle.pieces.specs.Docs.{Parenable, under, tile, opening, closing}
 use Rattle.pieces.specs.Tiles.{endTile, putTile}
 use Rattle.binders.specs.declared.stack.Stack.{Stack}
 use Rattle.binders.specs.Runs.{leading, following, runs}
-use Rattle.binders.specs.Binders.{Binder, sameGroup, binderName, closing, opening, groupDoc, telescope}
+use Rattle.binders.specs.Binders.{Binder, sameGroup, binderName, groupDoc, telescope}
 use Rattle.binders.specs.Rename.{rename}
 use Rattle.binders.specs.Scopes.{entry, Linked, placeIn, scoped, Chained}
 use Rattle.binders.specs.Steps.{firstBinder, groupLength, dropChain, chainLength, nameDocs, mkBinder}
-use Rattle.binders.specs.Puts.{endGroup, putColon, openGroup, closeGroup}
+use Rattle.pieces.specs.Puts.{endGroup, putColon, openGroup, closeGroup}
 use Rattle.pretty_printer.specs.Parts.{printed, inScope, groupsPart}
 use Rattle.binders.proofs.RunLaws.{runs-are-leading, runs-of-none}
 use Rattle.binders.proofs.ScopeLaws.{chain-length, place-out}

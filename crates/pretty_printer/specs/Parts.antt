@@ -19,7 +19,7 @@ use Rattle.pretty_printer.specs.Exprs.{exprPar}
 use Rattle.binders.specs.Rename.{up, rename}
 use Rattle.binders.specs.Scopes.{namesOf, placeIn, scoped, lastScope}
 use Rattle.binders.specs.Steps.{spineDoc, firstBinder}
-use Rattle.binders.specs.Puts.{putColon, putArrow, startRun, endRun, startLet, putAssign, endLet}
+use Rattle.pieces.specs.Puts.{putColon, putArrow, startRun, endRun, startLet, putAssign, endLet}
 use Rattle.binders.specs.Options.{PpOptions}
 use Rattle.binders.specs.Shown.{shown}
 

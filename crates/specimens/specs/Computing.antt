@@ -16,11 +16,11 @@ use Rattle.layout.specs.Layout.{run, layout, pieces}
 use Rattle.layout.specs.Listing.{bytesOf, countOf, longestRow, testsIn}
 use Rattle.layout.specs.Paint.{paint}
 use Rattle.layout.specs.Call.{untouched, listed, outcome}
-use Rattle.pieces.specs.Docs.{quoted, under, tileFrom, tile, digitsTo, digits, numberDoc}
+use Rattle.pieces.specs.Docs.{quoted, under, tileFrom, tile, digitsTo, digits, numberDoc, opening, closing}
 use Rattle.names.specs.Names.{dotted, nameText, isAnonymous, hasOdd, nameDoc, isHygienic}
 use Rattle.levels.specs.Levels.{plus, maxPar, succsPar, sortDoc, levelsDoc}
 use Rattle.binders.specs.Runs.{leading, following, runsTo, runs}
-use Rattle.binders.specs.Binders.{binders, chainBody, pushed, inForce, isArrow, isNamedPi, goesAlong, sameGroup, opening, closing, binderName, groupDoc, telescope}
+use Rattle.binders.specs.Binders.{binders, chainBody, pushed, inForce, isArrow, isNamedPi, goesAlong, sameGroup, binderName, groupDoc, telescope}
 use Rattle.binders.specs.Binders.{arrowPar, forallPar, funPar, runPar, runsPar, bindersPar}
 use Rattle.pretty_printer.specs.Exprs.{appHead, appArgs, appPar, chainPar, letPar, exprParTo, exprPar, exprDoc}
 use Rattle.binders.specs.Variables.{varDoc}

@@ -11,7 +11,7 @@ use Rattle.basics.proofs.Booleans.{both-ways}
 use Rattle.document.specs.Walk.{Marked, textᵐ, joinᵐ, breakᵐ, nestᵐ, groupᵐ, names}
 use Rattle.pool.specs.Tree.{Name, Level, Expr, var, sort, const, app, pi, lam, letᵉ, proj, nat, str, Declar, typed, valued, lift, occurs, same, depth, forget, forgetᵈ}
 use Rattle.pool.proofs.TreeLaws.{lift-forgets, forget-occurs, forget-depth, forget-twice, same-forgets, forgets-same}
-use Rattle.pieces.specs.Docs.{_⊹_, quoted, line, G, NG, Parenable, withInner, under, tile, tileFrom, numberDoc}
+use Rattle.pieces.specs.Docs.{_⊹_, quoted, line, G, NG, Parenable, withInner, under, tile, tileFrom, numberDoc, opening, closing}
 use Rattle.names.specs.Names.{nameDoc, isAnonymous}
 use Rattle.binders.specs.Runs.{runsTo, runs, leading, following}
 use Rattle.binders.specs.Binders.{
@@ -24,8 +24,6 @@ use Rattle.binders.specs.Binders.{
   isNamedPi,
   sameGroup,
   goesAlong,
-  opening,
-  closing,
   binderName,
   groupDoc,
   telescope,

@@ -2,7 +2,7 @@ use Prim.Native.Nat.{ℕ}
 use mathlib.Core.Bool.{Bool, cond}
 use mathlib.Core.Path.{_≡_, refl, sym, ap, _∙_}
 use native.Mathlib.Omega.{arith}
-use Rattle.binders.specs.Puts.{levelOf}
+use Rattle.binders.specs.Steps.{levelOf}
 use Rattle.binders.proofs.runs.level_of.Statement.{statement}
 use Rattle.binders.proofs.runs.level_of.Tie as tie
 

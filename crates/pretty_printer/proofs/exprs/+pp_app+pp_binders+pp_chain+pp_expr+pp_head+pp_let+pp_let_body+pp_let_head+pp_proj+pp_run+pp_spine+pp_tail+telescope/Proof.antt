@@ -132,16 +132,16 @@ use Rattle.binders.proofs.chain.push_chain.Reads as push-chain-reads
 use Rattle.binders.proofs.group.group_end.Reads as group-end-reads
 use Rattle.binders.proofs.group.pp_names.Reads as pp-names-reads
 use Rattle.binders.proofs.leaves.pp_leaf.Reads as pp-leaf-reads
-use Rattle.binders.proofs.puts.close_group.Reads as close-group-reads
-use Rattle.binders.proofs.puts.end_let.Reads as end-let-reads
-use Rattle.binders.proofs.puts.end_proj.Reads as end-proj-reads
-use Rattle.binders.proofs.puts.end_run.Reads as end-run-reads
-use Rattle.binders.proofs.puts.open_group.Reads as open-group-reads
-use Rattle.binders.proofs.puts.put_arrow.Reads as put-arrow-reads
-use Rattle.binders.proofs.puts.put_assign.Reads as put-assign-reads
-use Rattle.binders.proofs.puts.put_colon.Reads as put-colon-reads
-use Rattle.binders.proofs.puts.start_let.Reads as start-let-reads
-use Rattle.binders.proofs.puts.start_run.Reads as start-run-reads
+use Rattle.pieces.proofs.puts.close_group.Reads as close-group-reads
+use Rattle.pieces.proofs.puts.end_let.Reads as end-let-reads
+use Rattle.pieces.proofs.puts.end_proj.Reads as end-proj-reads
+use Rattle.pieces.proofs.puts.end_run.Reads as end-run-reads
+use Rattle.pieces.proofs.puts.open_group.Reads as open-group-reads
+use Rattle.pieces.proofs.puts.put_arrow.Reads as put-arrow-reads
+use Rattle.pieces.proofs.puts.put_assign.Reads as put-assign-reads
+use Rattle.pieces.proofs.puts.put_colon.Reads as put-colon-reads
+use Rattle.pieces.proofs.puts.start_let.Reads as start-let-reads
+use Rattle.pieces.proofs.puts.start_run.Reads as start-run-reads
 use Rattle.binders.proofs.stack.Stack.push.Reads as push-reads
 use Rattle.binders.proofs.vars.pp_bvar.Reads as pp-bvar-reads
 use Rattle.pretty_printer.proofs.exprs.+pp_app+pp_binders+pp_chain+pp_expr+pp_head+pp_let+pp_let_body+pp_let_head+pp_proj+pp_run+pp_spine+pp_tail+telescope.{statement}

@@ -1,9 +1,9 @@
-use Rattle.binders.proofs.WordLaws.{closing-word}
-use Rattle.binders.specs.Puts.{endGroup}
+use Rattle.pieces.proofs.WordLaws.{closing-word}
+use Rattle.pieces.specs.Puts.{endGroup}
 use mathlib.Core.Path.{_∙_}
 use borrow.Author.Needs.{needs}
-use Rattle.binders.proofs.puts.end_group.Statement.{statement}
-use Rattle.binders.proofs.puts.end_group.Tie as tie
+use Rattle.pieces.proofs.puts.end_group.Statement.{statement}
+use Rattle.pieces.proofs.puts.end_group.Tie as tie
 
 put-group-requires : tie.Need-put-group-requires
 put-group-requires c κs = search needs

@@ -1,7 +1,7 @@
-use Rattle.binders.specs.Puts.{closeGroup}
+use Rattle.pieces.specs.Puts.{closeGroup}
 use borrow.Author.Needs.{needs}
-use Rattle.binders.proofs.puts.close_group.Statement.{statement}
-use Rattle.binders.proofs.puts.close_group.Tie as tie
+use Rattle.pieces.proofs.puts.close_group.Statement.{statement}
+use Rattle.pieces.proofs.puts.close_group.Tie as tie
 
 end-group-requires : tie.Need-end-group-requires
 end-group-requires c κs = search needs

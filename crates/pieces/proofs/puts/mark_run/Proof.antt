@@ -1,7 +1,7 @@
-use Rattle.binders.specs.Puts.{markRun, joinPiece}
+use Rattle.pieces.specs.Puts.{markRun, joinPiece}
 use borrow.Author.Needs.{needs}
-use Rattle.binders.proofs.puts.mark_run.Statement.{statement}
-use Rattle.binders.proofs.puts.mark_run.Tie as tie
+use Rattle.pieces.proofs.puts.mark_run.Statement.{statement}
+use Rattle.pieces.proofs.puts.mark_run.Tie as tie
 
 join-word-requires : tie.Need-join-word-requires
 join-word-requires c κs = search needs

@@ -1,9 +1,9 @@
 use mathlib.Core.Path.{_∙_}
-use Rattle.binders.specs.Puts.{endLet}
-use Rattle.binders.specs.Puts.{joinLine, joinPiece}
+use Rattle.pieces.specs.Puts.{endLet}
+use Rattle.pieces.specs.Puts.{joinLine, joinPiece}
 use borrow.Author.Needs.{needs}
-use Rattle.binders.proofs.puts.end_let.Statement.{statement}
-use Rattle.binders.proofs.puts.end_let.Tie as tie
+use Rattle.pieces.proofs.puts.end_let.Statement.{statement}
+use Rattle.pieces.proofs.puts.end_let.Tie as tie
 
 put-group-requires : tie.Need-put-group-requires
 put-group-requires c κs = search needs

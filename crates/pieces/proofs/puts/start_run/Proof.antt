@@ -1,7 +1,7 @@
-use Rattle.binders.specs.Puts.{startRun, joinPiece}
+use Rattle.pieces.specs.Puts.{startRun, joinPiece}
 use borrow.Author.Needs.{needs}
-use Rattle.binders.proofs.puts.start_run.Statement.{statement}
-use Rattle.binders.proofs.puts.start_run.Tie as tie
+use Rattle.pieces.proofs.puts.start_run.Statement.{statement}
+use Rattle.pieces.proofs.puts.start_run.Tie as tie
 
 put-word-requires : tie.Need-put-word-requires
 put-word-requires c κs = search needs

@@ -1,8 +1,8 @@
-use Rattle.binders.specs.Puts.{startLet}
-use Rattle.binders.specs.Puts.{joinPiece}
+use Rattle.pieces.specs.Puts.{startLet}
+use Rattle.pieces.specs.Puts.{joinPiece}
 use borrow.Author.Needs.{needs}
-use Rattle.binders.proofs.puts.start_let.Statement.{statement}
-use Rattle.binders.proofs.puts.start_let.Tie as tie
+use Rattle.pieces.proofs.puts.start_let.Statement.{statement}
+use Rattle.pieces.proofs.puts.start_let.Tie as tie
 
 put-word-requires : tie.Need-put-word-requires
 put-word-requires c κs = search needs

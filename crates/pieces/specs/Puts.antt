@@ -1,14 +1,12 @@
 -- The constant pieces of a document, put one after the other: what the printers of chains and lets do between two parts.
-use Prim.Native.Nat.{ℕ, zero, suc, _+_}
+use Prim.Native.Nat.{ℕ, _+_}
 use Prim.Native.String.{String}
-use mathlib.Core.Bool.{Bool, true, false, cond}
-use mathlib.Core.List.{List, [], _∷_}
+use mathlib.Core.Bool.{Bool, true, false}
 use Rattle.utf8.specs.Quoted.{bytes}
 use Rattle.document.specs.Walk.{Marked}
 use Rattle.document.specs.Sink.{State, putText, putJoin, putBreak, putNest, putGroup, emit}
-use Rattle.pieces.specs.Docs.{numberDoc}
+use Rattle.pieces.specs.Docs.{numberDoc, opening, closing}
 use Rattle.pieces.specs.Tiles.{endTile}
-use Rattle.binders.specs.Binders.{Binder, isArrow, opening, closing}
 
 -- a quoted piece, joined to what stands before it
 unfoldable pub joinPiece : String → State → State
@@ -53,10 +51,6 @@ unfoldable pub closeGroup : Bool → ℕ → ℕ → State → State
 closeGroup true indent style st = endGroup indent (closing style) st
 closeGroup false indent style st = endTile (endGroup indent (closing style) st)
 
--- the level of a part of a chain that starts with this binder
-unfoldable pub innerOf : Binder → ℕ
-innerOf b = cond (isArrow b) 24 0
-
 -- after the structure of a projection: G(..)+"."+number
 unfoldable pub endProj : ℕ → State → State
 endProj i st = putJoin (emit (numberDoc (i + 1)) (joinPiece "." (putGroup st)))
@@ -72,7 +66,3 @@ putAssign st = joinLine (joinPiece ":=" (joinPiece " " (putJoin (putGroup (putJo
 -- after a let's value: G(value), joined; +";"; N(G(..))+|
 unfoldable pub endLet : ℕ → State → State
 endLet indent st = joinLine (putNest indent (putGroup (joinPiece ";" (putJoin (putGroup st)))))
-
--- the level of an arrow binder and what follows it, and of a run of others
-unfoldable pub levelOf : Bool → ℕ
-levelOf arrow = cond arrow 24 0

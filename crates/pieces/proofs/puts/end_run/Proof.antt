@@ -1,8 +1,8 @@
-use Rattle.binders.specs.Puts.{endRun, joinLine}
+use Rattle.pieces.specs.Puts.{endRun, joinLine}
 use mathlib.Core.Path.{_∙_}
 use borrow.Author.Needs.{needs}
-use Rattle.binders.proofs.puts.end_run.Statement.{statement}
-use Rattle.binders.proofs.puts.end_run.Tie as tie
+use Rattle.pieces.proofs.puts.end_run.Statement.{statement}
+use Rattle.pieces.proofs.puts.end_run.Tie as tie
 
 put-join-requires : tie.Need-put-join-requires
 put-join-requires c κs = search needs

@@ -1,8 +1,8 @@
-use Rattle.binders.specs.Puts.{putArrow, joinLine, joinPiece}
+use Rattle.pieces.specs.Puts.{putArrow, joinLine, joinPiece}
 use mathlib.Core.Path.{_∙_}
 use borrow.Author.Needs.{needs}
-use Rattle.binders.proofs.puts.put_arrow.Statement.{statement}
-use Rattle.binders.proofs.puts.put_arrow.Tie as tie
+use Rattle.pieces.proofs.puts.put_arrow.Statement.{statement}
+use Rattle.pieces.proofs.puts.put_arrow.Tie as tie
 
 put-group-requires : tie.Need-put-group-requires
 put-group-requires c κs = search needs

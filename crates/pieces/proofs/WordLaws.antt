@@ -3,9 +3,9 @@ use Prim.Native.Nat.{ℕ, zero, suc, _+_, _<_}
 use native.Mathlib.Omega.{arith}
 use mathlib.Core.Path.{_≡_, refl}
 use Rattle.document.specs.Sink.{State, putText, emit}
 use Rattle.pieces.specs.Docs.{quoted}
 use Rattle.pieces.specs.Words.{wordBytes}
-use Rattle.binders.specs.Binders.{opening, closing}
+use Rattle.pieces.specs.Docs.{opening, closing}
 
 pub opening-word : (style : ℕ) → style < 4 → (st : State) → putText (wordBytes (8 + style)) st ≡ emit (opening style) st
 unfolding opening quoted emit

@@ -1,8 +1,8 @@
-use Rattle.binders.specs.Puts.{endProj}
-use Rattle.binders.specs.Puts.{joinPiece}
+use Rattle.pieces.specs.Puts.{endProj}
+use Rattle.pieces.specs.Puts.{joinPiece}
 use borrow.Author.Needs.{needs}
-use Rattle.binders.proofs.puts.end_proj.Statement.{statement}
-use Rattle.binders.proofs.puts.end_proj.Tie as tie
+use Rattle.pieces.proofs.puts.end_proj.Statement.{statement}
+use Rattle.pieces.proofs.puts.end_proj.Tie as tie
 
 put-group-requires : tie.Need-put-group-requires
 put-group-requires c κs = search needs

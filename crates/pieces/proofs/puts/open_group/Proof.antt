@@ -1,8 +1,8 @@
-use Rattle.binders.specs.Puts.{openGroup}
-use Rattle.binders.proofs.WordLaws.{opening-word}
+use Rattle.pieces.specs.Puts.{openGroup}
+use Rattle.pieces.proofs.WordLaws.{opening-word}
 use borrow.Author.Needs.{needs}
-use Rattle.binders.proofs.puts.open_group.Statement.{statement}
-use Rattle.binders.proofs.puts.open_group.Tie as tie
+use Rattle.pieces.proofs.puts.open_group.Statement.{statement}
+use Rattle.pieces.proofs.puts.open_group.Tie as tie
 
 add-put-word : tie.Need-add-put-word
 add-put-word c = search needs

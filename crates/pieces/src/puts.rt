@@ -1,33 +1,33 @@
 // The constant pieces between the parts of a chain.
+use crate::digits::put_number;
+use crate::words::ARROW;
+use crate::words::ASSIGN;
+use crate::words::BLANK;
+use crate::words::CLOSE;
+use crate::words::COLON;
+use crate::words::COMMA;
+use crate::words::DOT;
+use crate::words::DOUBLE_ARROW;
+use crate::words::FORALL;
+use crate::words::FUN;
+use crate::words::LET;
+use crate::words::OPEN;
+use crate::words::SEMICOLON;
+use crate::words::end_tile;
+use crate::words::join_line;
+use crate::words::join_word;
+use crate::words::put_word;
 use document::sink::Sink;
 use document::sink::put_break;
 use document::sink::put_group;
 use document::sink::put_join;
 use document::sink::put_nest;
-use pieces::digits::put_number;
-use pieces::words::ARROW;
-use pieces::words::ASSIGN;
-use pieces::words::BLANK;
-use pieces::words::CLOSE;
-use pieces::words::COLON;
-use pieces::words::COMMA;
-use pieces::words::DOT;
-use pieces::words::DOUBLE_ARROW;
-use pieces::words::FORALL;
-use pieces::words::FUN;
-use pieces::words::LET;
-use pieces::words::OPEN;
-use pieces::words::SEMICOLON;
-use pieces::words::end_tile;
-use pieces::words::join_line;
-use pieces::words::join_word;
-use pieces::words::put_word;
 ghost use mathlib.Core.Path.{_≡_};
 ghost use Prim.Native.Nat.{_<_, _≤_};
 ghost use Rattle.document.specs.Sink.{Leaves};
-ghost use Rattle.binders.specs.Binders.{closing};
-ghost use Rattle.binders.specs.Puts.{putColon, putArrow, startRun, markRun, endRun, endGroup, openGroup, closeGroup};
-ghost use Rattle.binders.specs.Puts.{endProj, startLet, putAssign, endLet};
+ghost use Rattle.pieces.specs.Docs.{closing};
+ghost use Rattle.pieces.specs.Puts.{putColon, putArrow, startRun, markRun, endRun, endGroup, openGroup, closeGroup};
+ghost use Rattle.pieces.specs.Puts.{endProj, startLet, putAssign, endLet};
 
 // " "+":"+|
 pub fn put_colon(rows: &mut [u32], text: &mut [u8], s: Sink) -> Sink
