@@ -3,3 +3,4 @@ pub mod Decide
 pub mod Verdicts
 pub mod Acceptance
 pub mod NumberLaws
+pub mod RunLaws

@@ -1,19 +1,22 @@
-// The strings: pairs into the byte area.
+// The strings: pairs into the byte area. Offsets never fall, and bytes that are UTF-8 may be cut before any byte that goes on with no code
+// point: so what an earlier string has in common with a later one is not read again.
 use basics::bools::both;
 use basics::bools::either;
+use basics::numbers::larger;
 use pool::kinds::LENGTH;
 use pool::kinds::OFFSET;
 use pool::tables::Tables;
 use pool::tables::string_word;
 ghost use mathlib.Core.Path.{_≡_};
-ghost use Prim.Native.Nat.{_<_};
+ghost use Prim.Native.Nat.{ℕ, _+_, _<_, _≤_};
 ghost use mathlib.Core.List.{List};
-ghost use Prim.Native.Nat.{ℕ};
+ghost use lib.ListN.{length};
+ghost use Rattle.utf8.specs.Utf8.{utf8, isFollower};
 ghost use Rattle.pool.specs.Tables.{S, stringWord};
 ghost use Rattle.pool.specs.Rules.{rising, stringOk, allDigits, natural, isDigit};
 ghost use Rattle.pool_check.specs.Check.{firstBad};
+ghost use Rattle.pool_check.specs.Runs.{span, Known, before};
 ghost use Rattle.pool.specs.Areas.{NamesOf, over};
-use pool::strings::string_at;
 
 // Whether the offset is at least the one before it.
 fn string_rises(names: &[u32], r: usize) -> bool
@@ -25,16 +28,51 @@ fn string_rises(names: &[u32], r: usize) -> bool
     string_word(names, r - 1, OFFSET) <= string_word(names, r, OFFSET)
 }
 
-fn string_ok(bytes: &[u8], names: &[u32], r: usize) -> bool
+// Where the bytes of string row r end.
+fn string_end(names: &[u32], r: usize) -> usize
+    ensures { λ v. ⌜ (v ≡ stringWord (now (names .entry)) r 0 + stringWord (now (names .entry)) r 1) × (v < 8589934592) ⌝ }
+{
+    string_word(names, r, OFFSET) + string_word(names, r, LENGTH)
+}
+
+// A byte that goes on with a code point.
+fn is_follower(b: u8) -> bool
+    ensures { λ v. ⌜ v ≡ isFollower b ⌝ }
+{
+    both(0x80 <= b, b < 0xc0)
+}
+
+// Whether the bytes from `from` on and before `to` are UTF-8; those before `known` were read.
+fn is_valid(bytes: &[u8], from: usize, to: usize, known: usize) -> bool
+    requires { ⌜ (Known (now bytes) from known) × (to ≤ length (now bytes)) ⌝ }
+    ensures { λ v. ⌜ v ≡ utf8 (span (now (bytes .entry)) from to) ⌝ }
+{
+    if to <= from {
+        return true;
+    }
+    if is_follower(bytes[from]) {
+        return false;
+    }
+    if to < known {
+        return !is_follower(bytes[to]);
+    }
+    let unread = larger(from, known);
+    utf8::is_utf8(&bytes[unread..to])
+}
+
+fn string_ok(bytes: &[u8], names: &[u32], r: usize, known: usize) -> bool
+    requires { ⌜ Known (now bytes) (before (λ i. stringWord (now names) i 0) r) known ⌝ }
     ensures { λ v. ⌜ ((ws : List ℕ) → v ≡ stringOk (over (now (bytes .entry)) (now (names .entry)) ws) r) ⌝ }
 {
+    let end = string_end(names, r);
+    if bytes.len() < end {
+        return false;
+    }
+    if !string_rises(names, r) {
+        return false;
+    }
     let offset = string_word(names, r, OFFSET);
-    let size = string_word(names, r, LENGTH);
-    let s = string_at(bytes, names, r);
-    both(
-        offset + size <= bytes.len(),
-        both(string_rises(names, r), utf8::is_utf8(s)),
-    )
+    is_valid(bytes, offset, end, known)
 }
 
 // The first string row that breaks a rule, or their count.
@@ -44,11 +82,13 @@ pub(crate) fn first_bad_string(bytes: &[u8], names: &[u32], t: Tables) -> usize
         (S (now (names .entry))) 0) ⌝ }
 {
     let count = t.strings;
+    let mut known: usize = 0;
     let mut r: usize = 0;
     while r < count {
-        if !string_ok(bytes, names, r) {
+        if !string_ok(bytes, names, r, known) {
             return r;
         }
+        known = larger(known, string_end(names, r));
         r += 1;
     }
     r

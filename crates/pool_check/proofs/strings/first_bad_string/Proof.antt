@@ -1,35 +1,49 @@
 use Rattle.pool.specs.Rules.{stringOk}
-use Rattle.pool.specs.Tables.{S}
+use Rattle.pool.specs.Tables.{S, stringWord}
 use Rattle.pool_check.proofs.Scan.{bad-start, bad-step, bad-found, bad-none}
+use Rattle.pool_check.proofs.RunLaws.{known-none, known-next}
 use Rattle.pool.specs.Areas.{over}
 use Rattle.pool_check.specs.Check.{firstBad}
+use Rattle.pool_check.specs.Runs.{Known, before}
 use borrow.Author.Tests.{not-true, not-false}
-use mathlib.Core.List.{List}
+use mathlib.Core.List.{List, []}
 use Prim.Native.Nat.{ℕ, _≤_, _-_}
-use mathlib.Core.Path.{_≡_}
+use mathlib.Core.Path.{_≡_, sym, _∙_}
 use native.Mathlib.Omega.{arith}
 use Rattle.pool_check.proofs.strings.first_bad_string.Statement.{statement}
 use Rattle.pool_check.proofs.strings.first_bad_string.Tie as tie
 
 abbrev Inv-loop : tie.InvT-loop
-Inv-loop bytes names count r₀ r = (r ≤ count) × ((ws : List ℕ) → firstBad (stringOk (over bytes names ws)) (count - r) r ≡ firstBad (stringOk (over bytes names ws)) (S names) 0)
+Inv-loop bytes names count known₀ r₀ known r = (r ≤ count)
+    × ((ws : List ℕ) → firstBad (stringOk (over bytes names ws)) (count - r) r ≡ firstBad (stringOk (over bytes names ws)) (S names) 0)
+    × (Known bytes (before (λ i. stringWord names i 0) r) known)
 
 abbrev μ-loop : tie.MeasureT-loop
-μ-loop bytes names count r₀ r = count - r
+μ-loop bytes names count known₀ r₀ known r = count - r
+
+known-start : (bytes names : List ℕ) → Known bytes (before (λ i. stringWord names i 0) 0) 0
+unfolding before
+known-start bytes names = known-none bytes
 
 loop-holds : tie.Need-loop-holds Inv-loop μ-loop
 loop-holds c =
     let start = c .before .before in
-    (omega arith, λ ws. bad-start (stringOk (over (start .args .bytes .now) (start .args .names .now) ws)) _ _ (start .pre .strings))
+    (omega arith, λ ws. bad-start (stringOk (over (start .args .bytes .now) (start .args .names .now) ws)) _ _ (start .pre .strings), known-start (start .args .bytes .now) (start .args .names .now))
 
 string-ok-requires : tie.Need-string-ok-requires Inv-loop μ-loop
-string-ok-requires c κs = tt
+string-ok-requires c κs = c .before .loop .inv .2
 
 returns : tie.Need-returns Inv-loop μ-loop
 returns c =
     let start = c .before .before .before .before .before .before in
-    λ ws. bad-found (stringOk (over (start .args .bytes .now) (start .args .names .now) ws)) _ _ _ (c .before .before .loop-test .taken) _
-    (c .before .string-ok .ensures ws) (c .before .before .before .loop .inv .1 ws) (not-true _ (c .if1 .taken))
+    λ ws. bad-found (stringOk (over (start .args .bytes .now) (start .args .names .now) ws)) _ _ _ (c .before .before .loop-test .taken) _ (c .before .string-ok .ensures ws)
+    (c .before .before .before .loop .inv .1 ws) (not-true _ (c .if1 .taken))
+
+string-end-requires : tie.Need-string-end-requires Inv-loop μ-loop
+string-end-requires c κs = tt
+
+larger-requires : tie.Need-larger-requires Inv-loop μ-loop
+larger-requires c κs = tt
 
 add-r : tie.Need-add-r Inv-loop μ-loop
 add-r c = omega arith
@@ -39,10 +53,17 @@ loop-less c = omega arith
 
 loop-again : tie.Need-loop-again Inv-loop μ-loop
 loop-again c =
-    let start = c .before .before .before .before .before .before in (
+    let at-if1 = c .before .before in
+    let at-string-ok = at-if1 .before in
+    let at-loop-test = at-string-ok .before in
+    let at-loop = at-loop-test .before in
+    let start = at-loop .before .before .before in (
       omega arith,
-      λ ws. bad-step (stringOk (over (start .args .bytes .now) (start .args .names .now) ws)) _ _ _ (c .before .before .loop-test .taken) _
-          (c .before .string-ok .ensures ws) (c .before .before .before .loop .inv .1 ws) (not-false _ (c .if1 .left)),
+      λ ws. bad-step (stringOk (over (start .args .bytes .now) (start .args .names .now) ws)) _ _ _ (at-loop-test .loop-test .taken) _ (at-string-ok .string-ok .ensures ws)
+          (at-loop .loop .inv .1 ws) (not-false _ (at-if1 .if1 .left)),
+      known-next (over (start .args .bytes .now) (start .args .names .now) []) (at-loop .loop .r) (c .before .string-end .result) (c .before .string-end .ensures .0) (at-loop .loop .known)
+          (c .larger .result) (at-loop .loop .inv .2)
+          (sym (at-string-ok .string-ok .ensures []) ∙ not-false _ (at-if1 .if1 .left)) (c .larger .ensures),
     )
 
 returns-2 : tie.Need-returns-2 Inv-loop μ-loop
@@ -59,6 +80,8 @@ first-bad-string-spec =
     loop-holds
     string-ok-requires
     returns
+    string-end-requires
+    larger-requires
     add-r
     loop-less
     loop-again
