@@ -86,11 +86,20 @@ fn scan_levels(names: &[u32], words: &[u32], t: Tables, depths: &mut [u8]) -> us
     r
 }
 
+// The same with a table of depths that is no longer than need be, since all of it is cleared.
 pub(crate) fn first_bad_level(names: &[u32], words: &[u32], t: Tables) -> usize
     requires { ⌜ (TablesOf (now names) (now words) t) × (L (now words) ≤ 65536) ⌝ }
     ensures { λ v. ⌜ ((bs : List ℕ) → v ≡ firstBad (levelOk (over bs (now (names .entry)) (now (words .entry))))
         (L (now (words .entry))) 0) ⌝ }
 {
+    if t.levels <= 64 {
+        let mut depths = [0u8; 64];
+        return scan_levels(names, words, t, &mut depths);
+    }
+    if t.levels <= 4096 {
+        let mut depths = [0u8; 4096];
+        return scan_levels(names, words, t, &mut depths);
+    }
     let mut depths = [0u8; 65536];
     scan_levels(names, words, t, &mut depths)
 }

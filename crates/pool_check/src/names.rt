@@ -71,10 +71,19 @@ fn scan_names(names: &[u32], t: Tables, depths: &mut [u8]) -> usize
     r
 }
 
+// The same with a table of depths that is no longer than need be, since all of it is cleared.
 pub(crate) fn first_bad_name(names: &[u32], t: Tables) -> usize
     requires { ⌜ (NamesOf (now names) t) × (N (now names) ≤ 65536) ⌝ }
     ensures { λ v. ⌜ ((bs ws : List ℕ) → v ≡ firstBad (nameOk (over bs (now (names .entry)) ws)) (N (now (names .entry))) 0) ⌝ }
 {
+    if t.names <= 64 {
+        let mut depths = [0u8; 64];
+        return scan_names(names, t, &mut depths);
+    }
+    if t.names <= 4096 {
+        let mut depths = [0u8; 4096];
+        return scan_names(names, t, &mut depths);
+    }
     let mut depths = [0u8; 65536];
     scan_names(names, t, &mut depths)
 }
