@@ -4,3 +4,4 @@ pub mod Verdicts
 pub mod Acceptance
 pub mod NumberLaws
 pub mod RunLaws
+pub mod NaturalLaws

@@ -1,16 +1,14 @@
 -- Laws of the scan for a table's first bad row, and of the tests of a row.
-use Prim.Native.Nat.{ℕ, zero, suc, _+_, _-_, _≤_, _<_, min}
+use Prim.Native.Nat.{ℕ, zero, suc, _+_, _-_, _≤_, _<_}
 use native.Mathlib.Omega.{arith}
 use native.Mathlib.Numerals.{add-one}
 use mathlib.Core.Bool.{Bool, true, false, _&&_, _||_, not, cond}
 use mathlib.Core.List.{List, [], _∷_}
-use mathlib.Core.Path.{_≡_, refl, sym, ap, ap₂, _∙_}
-use lib.ListN.{length, getD, take, drop, length-drop}
-use lib.Seq.{drop-cons, take-all, take-nil}
+use mathlib.Core.Path.{_≡_, refl, sym, ap, _∙_}
+use lib.ListN.{length, getD}
 use lib.Dec.{leb, eqb}
-use borrow.Author.Tests.{ne-eqb, leb-true, leb-false}
+use borrow.Author.Tests.{ne-eqb, leb-true}
 use Rattle.basics.proofs.Booleans.{and-left, and-right, and-true}
-use Rattle.pool.proofs.Clips.{drop-all}
 use Rattle.pool.specs.Rules.{rising, allDigits, natural, isDigit, unused}
 use Rattle.pool_check.specs.Check.{firstBad}
 use Rattle.pool.specs.declared.tables.Tables.{Tables}
@@ -56,21 +54,6 @@ pub unused-one : (a : ℕ) → eqb a 0 ≡ unused (a ∷ [])
 unfolding unused
 unused-one a = sym (and-true (eqb a 0))
 
-module _ (s : List ℕ) (i : ℕ) (h : i < length s) (t : Bool) where
-  digits-next : allDigits (drop i s) ≡ isDigit (getD s i 0) && allDigits (drop (i + 1) s)
-  unfolding allDigits
-  digits-next = rw (add-one) (ap allDigits (drop-cons s i 0 h))
-
-  pub digits-on : isDigit (getD s i 0) ≡ true → allDigits (drop i s) ≡ t → allDigits (drop (i + 1) s) ≡ t
-  digits-on y e = sym (digits-next ∙ ap (λ (b : Bool). b && allDigits (drop (i + 1) s)) y) ∙ e
-
-  pub digits-off : isDigit (getD s i 0) ≡ false → allDigits (drop i s) ≡ t → false ≡ t
-  digits-off y e = sym (digits-next ∙ ap (λ (b : Bool). b && allDigits (drop (i + 1) s)) y) ∙ e
-
-pub digits-end : (s : List ℕ) (i : ℕ) (t : Bool) → length s ≤ i → allDigits (drop i s) ≡ t → true ≡ t
-unfolding allDigits
-digits-end s i t h e = sym (ap allDigits (drop-all i s h)) ∙ e
-
 pub natural-none : (s : List ℕ) → length s ≡ 0 → false ≡ natural s
 unfolding natural
 natural-none [] h = refl
@@ -89,6 +72,7 @@ small t size h =
     let h1 = and-right (leb (t .strings) 65536) _ h in
     let h2 = and-right (leb (t .names) 65536) _ h1 in
     record {
+      strings = leb-true (t .strings) 65536 (and-left (leb (t .strings) 65536) _ h);
       names = leb-true (t .names) 65536 (and-left (leb (t .names) 65536) _ h1);
       levels = leb-true (t .levels) 65536 (and-left (leb (t .levels) 65536) _ h2);
     }

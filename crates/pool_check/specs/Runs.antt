@@ -1,10 +1,13 @@
 -- What check knows of bytes that it has read, so that strings that overlap do not have it read them again.
 use Prim.Native.Nat.{ℕ, zero, suc, _-_, _≤_, _<_}
-use mathlib.Core.Bool.{true, false}
+use mathlib.Core.Bool.{true, false, cond}
 use mathlib.Core.List.{List}
 use mathlib.Core.Path.{_≡_}
 use lib.ListN.{length, getD, take, drop}
 use Rattle.utf8.specs.Utf8.{utf8, isFollower}
+use Rattle.pool.specs.Tables.{Pool, S, exprWord, stringAt}
+use Rattle.pool.specs.Rules.{isDigit, natural}
+use Rattle.pool_check.specs.declared.naturals.Run.{Run}
 
 -- the bytes from `from` on and before `to`
 abbrev pub span : List ℕ → ℕ → ℕ → List ℕ
@@ -19,3 +22,29 @@ pub record Known (bs : List ℕ) (from to : ℕ) : Type 0 where
 unfoldable pub before : (ℕ → ℕ) → ℕ → ℕ
 before offset zero = 0
 before offset (suc r) = offset r
+
+-- every byte from `from` on and before `to` is a digit
+abbrev pub Digits : List ℕ → ℕ → ℕ → Type 0
+Digits bs from to = (i : ℕ) → from ≤ i → i < to → isDigit (getD bs i 0) ≡ true
+
+pub record RunOf (bs : List ℕ) (run : Run) : Type 0 where
+  pub inside : run .to ≤ length bs
+  pub digits : Digits bs (run .from) (run .to)
+
+-- the run that the bytes from `from` on and before `to` begin in: it ends where they do, or later, or before a byte that is no digit
+pub record RunAt (bs : List ℕ) (from to : ℕ) (run : Run) : Type 0 where
+  pub begins : run .from ≤ from
+  pub reaches : from ≤ run .to
+  pub run-of : RunOf bs run
+  pub stops : run .to < to → isDigit (getD bs (run .to) 0) ≡ false
+
+-- a byte for each string row: 1 for a natural, else 0
+abbrev pub mark : Pool → ℕ → ℕ
+mark p a = cond (natural (stringAt p a)) 1 0
+
+abbrev pub Marked : Pool → List ℕ → Type 0
+Marked p marks = (a : ℕ) → a < S (p .names) → getD marks a 0 ≡ mark p a
+
+-- the strings are marked where expression row r is a natural
+abbrev pub MarkedFor : Pool → List ℕ → ℕ → Type 0
+MarkedFor p marks r = exprWord (p .words) r 0 ≡ 8 → Marked p marks

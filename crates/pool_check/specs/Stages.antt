@@ -17,8 +17,9 @@ limits t size =
     && (countOk (t .lists)
     && (countOk (t .entries) && (countOk (t .exprs) && (countOk (t .declars) && leb size 16777216))))))
 
--- the tables whose depths are computed
+-- the tables that have a byte for each row in the check
 pub record Small (t : Tables) : Type 0 where
+  pub strings : t .strings ≤ 65536
   pub names : t .names ≤ 65536
   pub levels : t .levels ≤ 65536
 

@@ -1,9 +1,11 @@
 // The expressions: kind, five fields, depth, loose.
+use crate::naturals::has_natural;
+use crate::naturals::mark_naturals;
+use crate::num::byte_at;
 use crate::num::unused1;
 use crate::num::unused2;
 use crate::num::unused3;
 use crate::num::unused4;
-use crate::strings::is_natural;
 use basics::bools::both;
 use basics::numbers::larger;
 use basics::numbers::less;
@@ -18,18 +20,19 @@ use pool::kinds::EXPR_PROJ;
 use pool::kinds::EXPR_SORT;
 use pool::kinds::EXPR_STRING;
 use pool::kinds::EXPR_VAR;
-use pool::strings::string_at;
 use pool::tables::Tables;
 use pool::tables::expr_word;
 ghost use mathlib.Core.Path.{_≡_};
-ghost use Prim.Native.Nat.{ℕ, _+_, _-_, _<_, max};
+ghost use Prim.Native.Nat.{ℕ, _+_, _-_, _<_, _≤_, max};
 ghost use mathlib.Core.Bool.{_&&_};
 ghost use mathlib.Core.List.{List, _∷_, []};
 ghost use lib.Dec.{ltb, leb};
-ghost use Rattle.pool.specs.Tables.{E, exprWord, stringAt};
+ghost use lib.ListN.{length};
+ghost use Rattle.pool.specs.Tables.{Pool, S, E, exprWord, stringAt};
 ghost use Rattle.pool.specs.Kinds.{exprKind};
 ghost use Rattle.pool.specs.Rules.{unused, natural, exprFieldsOk, depthBy, looseBy, exprOk};
 ghost use Rattle.pool_check.specs.Fields.{fieldsOf};
+ghost use Rattle.pool_check.specs.Runs.{Marked, MarkedFor};
 ghost use Rattle.pool_check.specs.Check.{firstBad};
 ghost use Rattle.pool.specs.Areas.{TablesOf, WordsOf, over, lent};
 
@@ -116,23 +119,22 @@ fn proj_ok(names: usize, r: usize, f: Fields) -> bool
     )
 }
 
-fn nat_ok(bytes: &[u8], names: &[u32], strings: usize, f: Fields) -> bool
-    ensures { λ v. ⌜ ((ws : List ℕ) → v ≡ ltb (f .a) strings
-        && (natural (stringAt (over (now (bytes .entry)) (now (names .entry)) ws) (f .a))
-        && unused (f .b ∷ f .c ∷ f .d ∷ f .e ∷ []))) ⌝ }
+fn nat_ok(strings: usize, marks: &[u8], f: Fields) -> bool
+    ensures { λ v. ⌜ ((p : Pool) → strings ≡ S (p .names) → Marked p (now (marks .entry)) → v ≡ ltb (f .a) strings
+        && (natural (stringAt p (f .a)) && unused (f .b ∷ f .c ∷ f .d ∷ f .e ∷ []))) ⌝ }
 {
     let a = f.a;
-    let s = string_at(bytes, names, a);
     both(
         a < strings,
-        both(is_natural(s), unused4(f.b, f.c, f.d, f.e)),
+        both(byte_at(marks, a) == 1, unused4(f.b, f.c, f.d, f.e)),
     )
 }
 
 // What each kind asks of its fields.
-fn expr_fields_ok(bytes: &[u8], names: &[u32], words: &[u32], t: Tables, r: usize) -> bool
+fn expr_fields_ok(names: &[u32], words: &[u32], marks: &[u8], t: Tables, r: usize) -> bool
     requires { ⌜ TablesOf (now names) (now words) t ⌝ }
-    ensures { λ v. ⌜ v ≡ exprFieldsOk (lent bytes names words) r (exprKind (exprWord (now (words .entry)) r 0)) ⌝ }
+    ensures { λ v. ⌜ ((bs : List ℕ) → MarkedFor (over bs (now (names .entry)) (now (words .entry))) (now (marks .entry)) r
+        → v ≡ exprFieldsOk (over bs (now (names .entry)) (now (words .entry))) r (exprKind (exprWord (now (words .entry)) r 0))) ⌝ }
 {
     let f = fields_at(words, t, r);
     let kind = f.kind;
@@ -145,7 +147,7 @@ fn expr_fields_ok(bytes: &[u8], names: &[u32], words: &[u32], t: Tables, r: usiz
         EXPR_LAMBDA => binder_ok(t.names, r, f),
         EXPR_LET => let_ok(t.names, r, f),
         EXPR_PROJ => proj_ok(t.names, r, f),
-        EXPR_NAT => nat_ok(bytes, names, t.strings, f),
+        EXPR_NAT => nat_ok(t.strings, marks, f),
         EXPR_STRING => leaf_ok(t.strings, f),
         _ => false,
     }
@@ -247,29 +249,63 @@ fn loose_by(words: &[u32], t: Tables, r: usize) -> usize
     }
 }
 
-fn expr_ok(bytes: &[u8], names: &[u32], words: &[u32], t: Tables, r: usize) -> bool
+fn expr_ok(names: &[u32], words: &[u32], marks: &[u8], t: Tables, r: usize) -> bool
     requires { ⌜ TablesOf (now names) (now words) t ⌝ }
-    ensures { λ v. ⌜ v ≡ exprOk (lent bytes names words) r ⌝ }
+    ensures { λ v. ⌜ ((bs : List ℕ) → MarkedFor (over bs (now (names .entry)) (now (words .entry))) (now (marks .entry)) r
+        → v ≡ exprOk (over bs (now (names .entry)) (now (words .entry))) r) ⌝ }
 {
-    let fields_ok = expr_fields_ok(bytes, names, words, t, r);
+    let fields_ok = expr_fields_ok(names, words, marks, t, r);
     let depth = fields::expr_depth(words, t, r);
     let loose = fields::expr_loose(words, t, r);
     let right = both(depth <= 256, loose == loose_by(words, t, r));
     both(fields_ok, both(depth == depth_by(words, t, r), right))
 }
 
-// The first expression row that breaks a rule, or their count.
-pub(crate) fn first_bad_expr(bytes: &[u8], names: &[u32], words: &[u32], t: Tables) -> usize
+// The first expression row that breaks a rule, or their count, where the strings that are naturals are marked.
+fn scan_exprs(names: &[u32], words: &[u32], marks: &[u8], t: Tables) -> usize
     requires { ⌜ TablesOf (now names) (now words) t ⌝ }
-    ensures { λ v. ⌜ v ≡ firstBad (exprOk (lent bytes names words)) (E (now (words .entry))) 0 ⌝ }
+    ensures { λ v. ⌜ ((bs : List ℕ)
+        → ((i : ℕ) → i < E (now (words .entry)) → MarkedFor (over bs (now (names .entry)) (now (words .entry))) (now (marks .entry)) i)
+        → v ≡ firstBad (exprOk (over bs (now (names .entry)) (now (words .entry)))) (E (now (words .entry))) 0) ⌝ }
 {
     let count = t.exprs;
     let mut r: usize = 0;
     while r < count {
-        if !expr_ok(bytes, names, words, t, r) {
+        if !expr_ok(names, words, marks, t, r) {
             return r;
         }
         r += 1;
     }
     r
+}
+
+// The same: marks them first.
+fn scan_marked(bytes: &[u8], names: &[u32], words: &[u32], marks: &mut [u8], t: Tables) -> usize
+    requires { ⌜ (TablesOf (now names) (now words) t) × (S (now names) ≤ length (now marks)) ⌝ }
+    ensures { λ v. ⌜ v ≡ firstBad (exprOk (lent bytes names words)) (E (now (words .entry))) 0 ⌝ }
+{
+    mark_naturals(bytes, names, t, marks);
+    scan_exprs(names, words, marks, t)
+}
+
+// The first expression row that breaks a rule, or their count. Strings are marked only if a natural is there, in a table that is no longer
+// than need be, since all of it is cleared.
+pub(crate) fn first_bad_expr(bytes: &[u8], names: &[u32], words: &[u32], t: Tables) -> usize
+    requires { ⌜ (TablesOf (now names) (now words) t) × (S (now names) ≤ 65536) ⌝ }
+    ensures { λ v. ⌜ v ≡ firstBad (exprOk (lent bytes names words)) (E (now (words .entry))) 0 ⌝ }
+{
+    if !has_natural(words, t) {
+        let marks = [0u8; 1];
+        return scan_exprs(names, words, &marks, t);
+    }
+    if t.strings <= 64 {
+        let mut marks = [0u8; 64];
+        return scan_marked(bytes, names, words, &mut marks, t);
+    }
+    if t.strings <= 4096 {
+        let mut marks = [0u8; 4096];
+        return scan_marked(bytes, names, words, &mut marks, t);
+    }
+    let mut marks = [0u8; 65536];
+    scan_marked(bytes, names, words, &mut marks, t)
 }

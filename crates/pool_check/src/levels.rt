@@ -1,5 +1,5 @@
 // The levels: kind, a, b.
-use crate::num::depth_at;
+use crate::num::byte_at;
 use basics::bools::both;
 use basics::numbers::larger;
 use pool::fields::level_first;
@@ -50,7 +50,7 @@ fn level_depth(words: &[u32], t: Tables, r: usize, depths: &[u8]) -> usize
     let first = level_first(words, t, r);
     let second = level_second(words, t, r);
     match kind {
-        LEVEL_SUCC => 1 + depth_at(depths, first),
+        LEVEL_SUCC => 1 + byte_at(depths, first),
         LEVEL_MAX => 1 + larger_depth(depths, first, second),
         LEVEL_IMAX => 1 + larger_depth(depths, first, second),
         _ => 1,
@@ -61,7 +61,7 @@ fn level_depth(words: &[u32], t: Tables, r: usize, depths: &[u8]) -> usize
 fn larger_depth(depths: &[u8], a: usize, b: usize) -> usize
     ensures { λ v. ⌜ (v ≡ max (getD (now (depths .entry)) a 0) (getD (now (depths .entry)) b 0)) × (v < 256) ⌝ }
 {
-    larger(depth_at(depths, a), depth_at(depths, b))
+    larger(byte_at(depths, a), byte_at(depths, b))
 }
 
 // The first level row that breaks a rule, or their count. The depths of the rows before it go into `depths`.

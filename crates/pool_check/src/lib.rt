@@ -4,6 +4,7 @@ mod exprs;
 mod levels;
 mod lists;
 mod names;
+mod naturals;
 mod num;
 mod strings;
 

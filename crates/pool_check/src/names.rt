@@ -1,5 +1,5 @@
 // The names: kind, prefix, low, high.
-use crate::num::depth_at;
+use crate::num::byte_at;
 use basics::bools::both;
 use pool::fields::name_high;
 use pool::fields::name_kind;
@@ -44,8 +44,8 @@ fn name_depth(names: &[u32], t: Tables, r: usize, depths: &[u8]) -> usize
     let kind = name_kind(names, t, r);
     let prefix = name_prefix(names, t, r);
     match kind {
-        NAME_STRING => 1 + depth_at(depths, prefix),
-        NAME_NUMBER => 1 + depth_at(depths, prefix),
+        NAME_STRING => 1 + byte_at(depths, prefix),
+        NAME_NUMBER => 1 + byte_at(depths, prefix),
         _ => 1,
     }
 }

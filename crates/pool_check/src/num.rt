@@ -1,4 +1,4 @@
-// Depths of lower rows, and unused words.
+// Tables of a byte for each row, and unused words.
 use basics::bools::both;
 ghost use mathlib.Core.Path.{_≡_};
 ghost use Prim.Native.Nat.{_<_};
@@ -6,12 +6,12 @@ ghost use mathlib.Core.List.{_∷_, []};
 ghost use lib.ListN.{getD};
 ghost use Rattle.pool.specs.Rules.{unused};
 
-// The depth of row i, 0 past the end.
-pub(crate) fn depth_at(depths: &[u8], i: usize) -> usize
-    ensures { λ r. ⌜ (r ≡ getD (now (depths .entry)) i 0) × (r < 256) ⌝ }
+// The byte of row i, 0 past the end.
+pub(crate) fn byte_at(table: &[u8], i: usize) -> usize
+    ensures { λ r. ⌜ (r ≡ getD (now (table .entry)) i 0) × (r < 256) ⌝ }
 {
-    if i < depths.len() {
-        return depths[i] as usize;
+    if i < table.len() {
+        return table[i] as usize;
     }
     0
 }

@@ -1,7 +1,6 @@
 // The strings: pairs into the byte area. Offsets never fall, and bytes that are UTF-8 may be cut before any byte that goes on with no code
 // point: so what an earlier string has in common with a later one is not read again.
 use basics::bools::both;
-use basics::bools::either;
 use basics::numbers::larger;
 use pool::kinds::LENGTH;
 use pool::kinds::OFFSET;
@@ -13,7 +12,7 @@ ghost use mathlib.Core.List.{List};
 ghost use lib.ListN.{length};
 ghost use Rattle.utf8.specs.Utf8.{utf8, isFollower};
 ghost use Rattle.pool.specs.Tables.{S, stringWord};
-ghost use Rattle.pool.specs.Rules.{rising, stringOk, allDigits, natural, isDigit};
+ghost use Rattle.pool.specs.Rules.{rising, stringOk};
 ghost use Rattle.pool_check.specs.Check.{firstBad};
 ghost use Rattle.pool_check.specs.Runs.{span, Known, before};
 ghost use Rattle.pool.specs.Areas.{NamesOf, over};
@@ -29,7 +28,7 @@ fn string_rises(names: &[u32], r: usize) -> bool
 }
 
 // Where the bytes of string row r end.
-fn string_end(names: &[u32], r: usize) -> usize
+pub(crate) fn string_end(names: &[u32], r: usize) -> usize
     ensures { λ v. ⌜ (v ≡ stringWord (now (names .entry)) r 0 + stringWord (now (names .entry)) r 1) × (v < 8589934592) ⌝ }
 {
     string_word(names, r, OFFSET) + string_word(names, r, LENGTH)
@@ -92,33 +91,4 @@ pub(crate) fn first_bad_string(bytes: &[u8], names: &[u32], t: Tables) -> usize
         r += 1;
     }
     r
-}
-
-fn is_digit(b: u8) -> bool
-    ensures { λ v. ⌜ v ≡ isDigit b ⌝ }
-{
-    both(48 <= b, b < 58)
-}
-
-fn all_digits(s: &[u8]) -> bool
-    ensures { λ v. ⌜ v ≡ allDigits (now (s .entry)) ⌝ }
-{
-    let mut i: usize = 0;
-    while i < s.len() {
-        if !is_digit(s[i]) {
-            return false;
-        }
-        i += 1;
-    }
-    true
-}
-
-// One or more digits, no leading zero unless the one digit is 0.
-pub(crate) fn is_natural(s: &[u8]) -> bool
-    ensures { λ v. ⌜ v ≡ natural (now (s .entry)) ⌝ }
-{
-    if s.len() == 0 {
-        return false;
-    }
-    both(either(s.len() == 1, s[0] != 48), all_digits(s))
 }

@@ -46,9 +46,7 @@ returns-3 c =
     ∙ passed-on _ _ Rows _ _ _ (at-first-bad-level .first-bad-level .ensures (start .args .bytes .now)) (start .pre .0 .of-words .levels) (at-if1 .if1 .left)
 
 first-bad-expr-requires : tie.Need-first-bad-expr-requires
-first-bad-expr-requires c κs =
-    let start = c .before .before .before .before .before .before .before .before .before .before .before .before in
-    start .pre .0
+first-bad-expr-requires c κs = search needs
 
 returns-4 : tie.Need-returns-4
 unfolding wordsVerdict

@@ -1,6 +1,7 @@
 use Rattle.pool_check.proofs.Decide.{kind-is, expr-none}
 use Rattle.pool.specs.Rules.{exprFieldsOk}
 use Rattle.pool.specs.Kinds.{exprKind}
+use Rattle.pool.specs.Areas.{over}
 use Rattle.pool_check.specs.declared.exprs.Fields.{Fields}
 use mathlib.Core.Path.{ap}
 use Rattle.pool_check.proofs.exprs.expr_fields_ok.Statement.{statement}
@@ -44,7 +45,7 @@ unfolding exprFieldsOk exprKind
 returns c =
     let at-fields-at = c .before .before in
     let e = kind-is _ _ _ _ (at-fields-at .fields-at .ensures) (c .before .match .keys1) in
-    rw (e, c .var-ok .ensures, at-fields-at .fields-at .ensures)
+    λ bs k. rw (e, c .var-ok .ensures, at-fields-at .fields-at .ensures)
 
 returns-2 : tie.Need-returns-2
 unfolding exprFieldsOk exprKind
@@ -52,7 +53,7 @@ returns-2 c =
     let at-fields-at = c .before .before in
     let start = at-fields-at .before .before .before .before in
     let e = kind-is _ _ _ _ (at-fields-at .fields-at .ensures) (c .before .match .keys2) in
-    rw (e, c .leaf-ok .ensures, at-fields-at .fields-at .ensures, start .pre .of-words .levels)
+    λ bs k. rw (e, c .leaf-ok .ensures, at-fields-at .fields-at .ensures, start .pre .of-words .levels)
 
 returns-3 : tie.Need-returns-3
 unfolding exprFieldsOk exprKind
@@ -60,14 +61,14 @@ returns-3 c =
     let at-fields-at = c .before .before in
     let start = at-fields-at .before .before .before .before in
     let e = kind-is _ _ _ _ (at-fields-at .fields-at .ensures) (c .before .match .keys3) in
-    rw (e, c .pair-ok .ensures, at-fields-at .fields-at .ensures, start .pre .of-words .lists, start .pre .of-names .names)
+    λ bs k. rw (e, c .pair-ok .ensures, at-fields-at .fields-at .ensures, start .pre .of-words .lists, start .pre .of-names .names)
 
 returns-4 : tie.Need-returns-4
 unfolding exprFieldsOk exprKind
 returns-4 c =
     let at-fields-at = c .before .before in
     let e = kind-is _ _ _ _ (at-fields-at .fields-at .ensures) (c .before .match .keys4) in
-    rw (e, c .pair-ok2 .ensures, at-fields-at .fields-at .ensures)
+    λ bs k. rw (e, c .pair-ok2 .ensures, at-fields-at .fields-at .ensures)
 
 returns-5 : tie.Need-returns-5
 unfolding exprFieldsOk exprKind
@@ -75,7 +76,7 @@ returns-5 c =
     let at-fields-at = c .before .before in
     let start = at-fields-at .before .before .before .before in
     let e = kind-is _ _ _ _ (at-fields-at .fields-at .ensures) (c .before .match .keys5) in
-    rw (e, c .binder-ok .ensures, at-fields-at .fields-at .ensures, start .pre .of-names .names)
+    λ bs k. rw (e, c .binder-ok .ensures, at-fields-at .fields-at .ensures, start .pre .of-names .names)
 
 returns-6 : tie.Need-returns-6
 unfolding exprFieldsOk exprKind
@@ -83,7 +84,7 @@ returns-6 c =
     let at-fields-at = c .before .before in
     let start = at-fields-at .before .before .before .before in
     let e = kind-is _ _ _ _ (at-fields-at .fields-at .ensures) (c .before .match .keys6) in
-    rw (e, c .binder-ok2 .ensures, at-fields-at .fields-at .ensures, start .pre .of-names .names)
+    λ bs k. rw (e, c .binder-ok2 .ensures, at-fields-at .fields-at .ensures, start .pre .of-names .names)
 
 returns-7 : tie.Need-returns-7
 unfolding exprFieldsOk exprKind
@@ -91,7 +92,7 @@ returns-7 c =
     let at-fields-at = c .before .before in
     let start = at-fields-at .before .before .before .before in
     let e = kind-is _ _ _ _ (at-fields-at .fields-at .ensures) (c .before .match .keys7) in
-    rw (e, c .let-ok .ensures, at-fields-at .fields-at .ensures, start .pre .of-names .names)
+    λ bs k. rw (e, c .let-ok .ensures, at-fields-at .fields-at .ensures, start .pre .of-names .names)
 
 returns-8 : tie.Need-returns-8
 unfolding exprFieldsOk exprKind
@@ -99,7 +100,7 @@ returns-8 c =
     let at-fields-at = c .before .before in
     let start = at-fields-at .before .before .before .before in
     let e = kind-is _ _ _ _ (at-fields-at .fields-at .ensures) (c .before .match .keys8) in
-    rw (e, c .proj-ok .ensures, at-fields-at .fields-at .ensures, start .pre .of-names .names)
+    λ bs k. rw (e, c .proj-ok .ensures, at-fields-at .fields-at .ensures, start .pre .of-names .names)
 
 returns-9 : tie.Need-returns-9
 unfolding exprFieldsOk exprKind
@@ -107,7 +108,13 @@ returns-9 c =
     let at-fields-at = c .before .before in
     let start = at-fields-at .before .before .before .before in
     let e = kind-is _ _ _ _ (at-fields-at .fields-at .ensures) (c .before .match .keys9) in
-    rw (e, c .nat-ok .ensures (start .args .words .now), at-fields-at .fields-at .ensures, start .pre .of-names .strings)
+    λ bs k. rw (
+      e,
+      c .nat-ok .ensures (over bs (start .args .names .now) (start .args .words .now)) (start .pre .of-names .strings)
+          (k e),
+      at-fields-at .fields-at .ensures,
+      start .pre .of-names .strings,
+    )
 
 returns-10 : tie.Need-returns-10
 unfolding exprFieldsOk exprKind
@@ -115,13 +122,13 @@ returns-10 c =
     let at-fields-at = c .before .before in
     let start = at-fields-at .before .before .before .before in
     let e = kind-is _ _ _ _ (at-fields-at .fields-at .ensures) (c .before .match .keys10) in
-    rw (e, c .leaf-ok2 .ensures, at-fields-at .fields-at .ensures, start .pre .of-names .strings)
+    λ bs k. rw (e, c .leaf-ok2 .ensures, at-fields-at .fields-at .ensures, start .pre .of-names .strings)
 
 returns-11 : tie.Need-returns-11
 unfolding exprFieldsOk
 returns-11 c = let e = ap (λ (f : Fields). f .kind) (c .before .fields-at .ensures) in
     let m = c .match .rest in
-    rw (
+    λ bs k. rw (
       ← e,
       expr-none _ (m .0 .0 .0 .0 .0 .0 .0 .0 .0 .1) (m .0 .0 .0 .0 .0 .0 .0 .0 .1) (m .0 .0 .0 .0 .0 .0 .0 .1) (m .0 .0 .0 .0 .0 .0 .1)
           (m .0 .0 .0 .0 .0 .1) (m .0 .0 .0 .0 .1) (m .0 .0 .0 .1) (m .0 .0 .1) (m .0 .1) (m .1),

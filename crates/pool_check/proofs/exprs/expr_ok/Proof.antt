@@ -42,16 +42,16 @@ returns c =
     let at-expr-depth = at-expr-loose .before in
     let at-expr-fields-ok = at-expr-depth .before in
     let start = at-expr-fields-ok .before .before .before .before in
-    rw (
+    λ bs k. rw (
       c .both3 .ensures,
       c .before .both2 .ensures,
       c .before .before .before .both .ensures,
-      at-expr-fields-ok .expr-fields-ok .ensures,
+      at-expr-fields-ok .expr-fields-ok .ensures bs k,
       at-expr-depth .expr-depth .ensures .0,
       at-expr-loose .expr-loose .ensures .0,
-      at-loose-by .loose-by .ensures (start .args .bytes .now)
+      at-loose-by .loose-by .ensures bs
           (start .args .names .now),
-      c .before .before .depth-by .ensures (start .args .bytes .now) (start .args .names .now),
+      c .before .before .depth-by .ensures bs (start .args .names .now),
     )
 
 pub expr-ok-spec : {M : Type 1} → statement M

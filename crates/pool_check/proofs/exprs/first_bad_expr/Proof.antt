@@ -1,66 +1,67 @@
-use Rattle.pool.specs.Rules.{exprOk}
-use Rattle.pool.specs.Tables.{E}
-use Rattle.pool_check.proofs.Scan.{bad-start, bad-step, bad-found, bad-none}
-use Rattle.pool.specs.Areas.{over}
-use Rattle.pool_check.specs.Check.{firstBad}
-use borrow.Author.Tests.{not-true, not-false}
-use Prim.Native.Nat.{_≤_, _-_}
-use mathlib.Core.Path.{_≡_}
-use native.Mathlib.Omega.{arith}
+use Rattle.basics.proofs.Booleans.{true-false}
+use Rattle.pool.specs.Tables.{exprWord}
+use borrow.Author.Tests.{not-true, eq-eqb}
+use mathlib.Core.Path.{sym, _∙_}
+use borrow.Author.Needs.{needs}
 use Rattle.pool_check.proofs.exprs.first_bad_expr.Statement.{statement}
 use Rattle.pool_check.proofs.exprs.first_bad_expr.Tie as tie
 
-abbrev Inv-loop : tie.InvT-loop
-Inv-loop bytes names words t count r₀ r = (r ≤ count) × (firstBad (exprOk (over bytes names words)) (count - r) r ≡ firstBad (exprOk (over bytes names words)) (E words) 0)
+has-natural-requires : tie.Need-has-natural-requires
+has-natural-requires c κs = search needs
 
-abbrev μ-loop : tie.MeasureT-loop
-μ-loop bytes names words t count r₀ r = count - r
+slice-aggregate-scan-exprs : tie.Need-slice-aggregate-scan-exprs
+slice-aggregate-scan-exprs c = search needs
 
-loop-holds : tie.Need-loop-holds Inv-loop μ-loop
-loop-holds c =
-    let start = c .before .before .before in
-    (omega arith, bad-start (exprOk (over (start .args .bytes .now) (start .args .names .now) (start .args .words .now))) _ _ (start .pre .of-words .exprs))
+scan-exprs-requires : tie.Need-scan-exprs-requires
+scan-exprs-requires c κs = search needs
 
-expr-ok-requires : tie.Need-expr-ok-requires Inv-loop μ-loop
-expr-ok-requires c κs =
-    let start = c .before .before .before .before .before in
-    start .pre
-
-returns : tie.Need-returns Inv-loop μ-loop
+returns : tie.Need-returns
 returns c =
     let start = c .before .before .before .before .before .before .before in
-    bad-found (exprOk (over (start .args .bytes .now) (start .args .names .now) (start .args .words .now))) _ _ _
-    (c .before .before .loop-test .taken) _ (c .before .expr-ok .ensures) (c .before .before .before .loop .inv .1) (not-true _ (c .if1 .taken))
+    c .scan-exprs .ensures (start .args .bytes .now)
+    (λ i l e. true-false (sym (eq-eqb (exprWord (start .args .words .now) i 0) 8 e) ∙ c .before .before .before .has-natural .ensures (not-true _ (c .before .before .if1 .taken)) i l))
 
-add-r : tie.Need-add-r Inv-loop μ-loop
-add-r c = omega arith
+slice-aggregate-scan-marked : tie.Need-slice-aggregate-scan-marked
+slice-aggregate-scan-marked c = search needs
 
-loop-less : tie.Need-loop-less Inv-loop μ-loop
-loop-less c = omega arith
+scan-marked-requires : tie.Need-scan-marked-requires
+scan-marked-requires c κs = search needs
 
-loop-again : tie.Need-loop-again Inv-loop μ-loop
-loop-again c =
-    let start = c .before .before .before .before .before .before .before in (
-      omega arith,
-      bad-step (exprOk (over (start .args .bytes .now) (start .args .names .now) (start .args .words .now))) _ _ _
-          (c .before .before .loop-test .taken) _ (c .before .expr-ok .ensures) (c .before .before .before .loop .inv .1) (not-false _ (c .if1 .left)),
-    )
+returns-2 : tie.Need-returns-2
+returns-2 c = search needs
 
-returns-2 : tie.Need-returns-2 Inv-loop μ-loop
-returns-2 c =
-    let start = c .before .before .before .before .before in
-    bad-none (exprOk (over (start .args .bytes .now) (start .args .names .now) (start .args .words .now))) _ _ _ (c .before .loop .inv .0) (c .loop-test .left) (c .before .loop .inv .1)
+slice-aggregate-scan-marked-2 : tie.Need-slice-aggregate-scan-marked-2
+slice-aggregate-scan-marked-2 c = search needs
+
+scan-marked-requires-2 : tie.Need-scan-marked-requires-2
+scan-marked-requires-2 c κs = search needs
+
+returns-3 : tie.Need-returns-3
+returns-3 c = search needs
+
+slice-aggregate-scan-marked-3 : tie.Need-slice-aggregate-scan-marked-3
+slice-aggregate-scan-marked-3 c = search needs
+
+scan-marked-requires-3 : tie.Need-scan-marked-requires-3
+scan-marked-requires-3 c κs = search needs
+
+returns-4 : tie.Need-returns-4
+returns-4 c = search needs
 
 pub first-bad-expr-spec : {M : Type 1} → statement M
 first-bad-expr-spec =
     tie.close
     (tie.spec
-    Inv-loop
-    μ-loop
-    loop-holds
-    expr-ok-requires
+    has-natural-requires
+    slice-aggregate-scan-exprs
+    scan-exprs-requires
     returns
-    add-r
-    loop-less
-    loop-again
-    returns-2)
+    slice-aggregate-scan-marked
+    scan-marked-requires
+    returns-2
+    slice-aggregate-scan-marked-2
+    scan-marked-requires-2
+    returns-3
+    slice-aggregate-scan-marked-3
+    scan-marked-requires-3
+    returns-4)

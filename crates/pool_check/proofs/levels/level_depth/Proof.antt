@@ -16,8 +16,8 @@ level-second-requires c κs =
     let start = c .before .before .before .before in
     start .pre
 
-depth-at-requires : tie.Need-depth-at-requires
-depth-at-requires c κs = tt
+byte-at-requires : tie.Need-byte-at-requires
+byte-at-requires c κs = tt
 
 add-result : tie.Need-add-result
 add-result c = search needs
@@ -38,7 +38,7 @@ returns : tie.Need-returns
 unfolding levelDepthBy levelKind
 returns c =
     let at-level-kind = c .before .before .before .before in
-    rw (← at-level-kind .level-kind .ensures .0, c .before .match .keys1, c .depth-at .ensures .0, c .before .before .before .level-first .ensures .0)
+    rw (← at-level-kind .level-kind .ensures .0, c .before .match .keys1, c .byte-at .ensures .0, c .before .before .before .level-first .ensures .0)
 
 returns-2 : tie.Need-returns-2
 unfolding levelDepthBy levelKind
@@ -74,7 +74,7 @@ level-depth-spec =
     level-kind-requires
     level-first-requires
     level-second-requires
-    depth-at-requires
+    byte-at-requires
     add-result
     larger-depth-requires
     add-result-2

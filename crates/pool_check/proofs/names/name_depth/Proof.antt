@@ -11,25 +11,25 @@ name-kind-requires c κs = c .before .before .pre
 name-prefix-requires : tie.Need-name-prefix-requires
 name-prefix-requires c κs = c .before .before .before .pre
 
-depth-at-requires : tie.Need-depth-at-requires
-depth-at-requires c κs = tt
+byte-at-requires : tie.Need-byte-at-requires
+byte-at-requires c κs = tt
 
 add-result : tie.Need-add-result
 add-result c = search needs
 
-depth-at-requires-2 : tie.Need-depth-at-requires-2
-depth-at-requires-2 c κs = tt
+byte-at-requires-2 : tie.Need-byte-at-requires-2
+byte-at-requires-2 c κs = tt
 
 add-result-2 : tie.Need-add-result-2
 add-result-2 c = search needs
 
 returns : tie.Need-returns
 unfolding nameDepthBy nameKind
-returns c = rw (← c .before .before .before .name-kind .ensures .0, c .before .match .keys1, c .depth-at .ensures .0, c .before .before .name-prefix .ensures .0)
+returns c = rw (← c .before .before .before .name-kind .ensures .0, c .before .match .keys1, c .byte-at .ensures .0, c .before .before .name-prefix .ensures .0)
 
 returns-2 : tie.Need-returns-2
 unfolding nameDepthBy nameKind
-returns-2 c = rw (← c .before .before .before .name-kind .ensures .0, c .before .match .keys2, c .depth-at2 .ensures .0, c .before .before .name-prefix .ensures .0)
+returns-2 c = rw (← c .before .before .before .name-kind .ensures .0, c .before .match .keys2, c .byte-at2 .ensures .0, c .before .before .name-prefix .ensures .0)
 
 returns-3 : tie.Need-returns-3
 returns-3 c = rw (← c .before .before .name-kind .ensures .0) (name-leaf _ _ _ _ (c .match .rest .0 .1) (c .match .rest .1))
@@ -40,9 +40,9 @@ name-depth-spec =
     (tie.spec
     name-kind-requires
     name-prefix-requires
-    depth-at-requires
+    byte-at-requires
     add-result
-    depth-at-requires-2
+    byte-at-requires-2
     add-result-2
     returns
     returns-2

@@ -5,7 +5,6 @@ use Rattle.pool_check.specs.Runs.{span}
 use Rattle.utf8.specs.Utf8.{utf8}
 use borrow.Author.Tests.{not-true, not-false}
 use Prim.Native.Nat.{ℕ}
-use mathlib.Core.List.{[]}
 use mathlib.Core.Path.{sym, ap, _∙_}
 use borrow.Author.Needs.{needs}
 use Rattle.pool_check.proofs.strings.string_ok.Statement.{statement}

@@ -1,0 +1,22 @@
+use borrow.Author.Needs.{needs}
+use Rattle.pool_check.proofs.exprs.scan_marked.Statement.{statement}
+use Rattle.pool_check.proofs.exprs.scan_marked.Tie as tie
+
+mark-naturals-requires : tie.Need-mark-naturals-requires
+mark-naturals-requires c κs = search needs
+
+scan-exprs-requires : tie.Need-scan-exprs-requires
+scan-exprs-requires c κs = search needs
+
+same-length : tie.Need-same-length
+same-length c = search needs
+
+returns : tie.Need-returns
+returns c =
+    let at-mark-naturals = c .before .before .before .before in
+    let start = at-mark-naturals .before .before .before .before .before .before in
+    c .scan-exprs .ensures (start .args .bytes .now) (λ i l e. at-mark-naturals .mark-naturals .ensures (start .args .words .now))
+
+pub scan-marked-spec : {M : Type 1} → statement M
+scan-marked-spec =
+    tie.close (tie.spec mark-naturals-requires scan-exprs-requires same-length returns)
