@@ -8,7 +8,7 @@ use mathlib.Core.Path.{_≡_, refl, sym, ap, ap₂, _∙_, subst}
 use lib.ListN.{length, getD, take, drop}
 use lib.Seq.{drop-cons, take-add, drop-drop}
 use lib.Dec.{ltb, leb}
-use borrow.Author.Tests.{ltb-true, leb-true, leb-false, le-leb, lt-leb}
+use borrow.Author.Tests.{ltb-true, lt-ltb, leb-true, leb-false, le-leb, lt-leb}
 use Rattle.basics.proofs.Booleans.{and-left, and-right, true-false, false-true, not-so}
 use Rattle.utf8.specs.Utf8.{utf8, utf8From, isLead, isFollower, isWhole, withBits, followers, leadBits, leastOf, within}
 use Rattle.pool.specs.Tables.{Pool, stringWord, stringAt}
@@ -80,6 +80,10 @@ go-on (b ∷ xs) (suc (suc need)) bits least ys h =
     ap (λ (t : Bool). t && utf8From (suc need) (withBits bits b) least (xs ++ ys)) (and-left (isFollower b) _ h)
     ∙ go-on xs (suc need) (withBits bits b) least ys (and-right (isFollower b) _ h)
 
+ascii-first : (b : ℕ) (s : List ℕ) → b < 0x80 → utf8 (b ∷ s) ≡ utf8 s
+unfolding utf8 utf8From
+ascii-first b s h = let g : b < 0xc0 = omega arith in rw (lt-ltb b 0x80 h, lt-ltb b 0xc0 g) (fresh b 0 s)
+
 -- parts of the byte area
 module _ (bs : List ℕ) where
   pub span-split : (from at to : ℕ) → from ≤ at → at ≤ to → span bs from to ≡ span bs from at ++ span bs at to
@@ -131,6 +135,9 @@ module _ (bs : List ℕ) where
   pub valid-on : (from at to : ℕ) → from ≤ at → at ≤ to → utf8 (span bs from at) ≡ true → utf8 (span bs at to) ≡ utf8 (span bs from to)
   unfolding utf8
   valid-on from at to p q h = sym (ap utf8 (span-split from at to p q) ∙ go-on (span bs from at) 0 0 0 (span bs at to) h)
+
+  pub ascii-on : (i to : ℕ) (t : Bool) → i < to → to ≤ length bs → getD bs i 0 < 0x80 → utf8 (span bs i to) ≡ t → utf8 (span bs (i + 1) to) ≡ t
+  ascii-on i to t h l a e = sym (ap utf8 (span-open i to h l) ∙ ascii-first (getD bs i 0) (span bs (i + 1) to) a) ∙ e
 
   -- what is known grows with each string
   pub known-none : Known bs 0 0

@@ -41,6 +41,21 @@ fn is_follower(b: u8) -> bool
     both(0x80 <= b, b < 0xc0)
 }
 
+// Where the bytes from `from` on and before `to` stop to be ASCII: what lies before that is UTF-8, and quickly read.
+fn ascii_end(bytes: &[u8], from: usize, to: usize) -> usize
+    requires { ⌜ (from ≤ to) × (to ≤ length (now bytes)) ⌝ }
+    ensures { λ v. ⌜ (v ≤ to) × (utf8 (span (now (bytes .entry)) v to) ≡ utf8 (span (now (bytes .entry)) from to)) ⌝ }
+{
+    let mut i = from;
+    while i < to {
+        if 0x80 <= bytes[i] {
+            return i;
+        }
+        i += 1;
+    }
+    i
+}
+
 // Whether the bytes from `from` on and before `to` are UTF-8; those before `known` were read.
 fn is_valid(bytes: &[u8], from: usize, to: usize, known: usize) -> bool
     requires { ⌜ (Known (now bytes) from known) × (to ≤ length (now bytes)) ⌝ }
@@ -56,7 +71,8 @@ fn is_valid(bytes: &[u8], from: usize, to: usize, known: usize) -> bool
         return !is_follower(bytes[to]);
     }
     let unread = larger(from, known);
-    utf8::is_utf8(&bytes[unread..to])
+    let rest = ascii_end(bytes, unread, to);
+    utf8::is_utf8(&bytes[rest..to])
 }
 
 fn string_ok(bytes: &[u8], names: &[u32], r: usize, known: usize) -> bool

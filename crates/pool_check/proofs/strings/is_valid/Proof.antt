@@ -33,11 +33,16 @@ returns-3 c =
     let at-is-follower = c .before .before .before .before in
     let at-if1 = at-is-follower .before .before in
     let start = at-if1 .before .before in
-    ap not (c .is-follower2 .ensures) ∙ valid-within (start .args .bytes .now) (start .args .from) (start .args .to) (start .args .known) (start .pre .0)
-    (sym (at-is-follower .is-follower .ensures) ∙ c .before .before .before .if2 .left) (at-if1 .if1 .left) (c .before .before .if3 .taken)
+    ap not (c .is-follower2 .ensures)
+    ∙ valid-within (start .args .bytes .now) (start .args .from) (start .args .to) (start .args .known) (start .pre .0)
+    (sym (at-is-follower .is-follower .ensures) ∙ c .before .before .before .if2 .left)
+    (at-if1 .if1 .left) (c .before .before .if3 .taken)
 
 larger-requires : tie.Need-larger-requires
 larger-requires c κs = search needs
+
+ascii-end-requires : tie.Need-ascii-end-requires
+ascii-end-requires c κs = search needs
 
 sub-is-utf8 : tie.Need-sub-is-utf8
 sub-is-utf8 c = search needs
@@ -53,13 +58,15 @@ is-utf8-requires c κs = search needs
 
 returns-4 : tie.Need-returns-4
 returns-4 c =
-    let at-larger = c .before .before in
-    let at-if2 = at-larger .before .before in
+    let at-larger = c .before .before .before in
+    let at-if3 = at-larger .before in
+    let at-if2 = at-if3 .before in
     let at-is-follower = at-if2 .before in
     let at-if1 = at-is-follower .before .before in
     let start = at-if1 .before .before in
-    c .is-utf8 .ensures ∙ valid-past (start .args .bytes .now) (start .args .from) (start .args .to) (start .args .known) (start .pre .0)
-    (sym (at-is-follower .is-follower .ensures) ∙ at-if2 .if2 .left) (at-if1 .if1 .left) (at-larger .larger .result) (c .before .before .before .if3 .left) (omega (arith, at-larger .larger .ensures))
+    c .is-utf8 .ensures ∙ c .before .before .ascii-end .ensures .1
+    ∙ valid-past (start .args .bytes .now) (start .args .from) (start .args .to) (start .args .known) (start .pre .0) (sym (at-is-follower .is-follower .ensures) ∙ at-if2 .if2 .left)
+    (at-if1 .if1 .left) (at-larger .larger .result) (at-if3 .if3 .left) (omega (arith, at-larger .larger .ensures))
 
 pub is-valid-spec : {M : Type 1} → statement M
 is-valid-spec =
@@ -73,6 +80,7 @@ is-valid-spec =
     is-follower-requires-2
     returns-3
     larger-requires
+    ascii-end-requires
     sub-is-utf8
     part-is-utf8-start
     part-is-utf8-end
