@@ -4,16 +4,16 @@ use Rattle.pool_check.proofs.exprs.nat_ok.Statement.{statement}
 use Rattle.pool_check.proofs.exprs.nat_ok.Tie as tie
 
 byte-at-requires : tie.Need-byte-at-requires
-byte-at-requires c κs = search needs
+byte-at-requires c κs = tt
 
 unused4-requires : tie.Need-unused4-requires
-unused4-requires c κs = search needs
+unused4-requires c κs = tt
 
 both-requires : tie.Need-both-requires
-both-requires c κs = search needs
+both-requires c κs = tt
 
 both-requires-2 : tie.Need-both-requires-2
-both-requires-2 c κs = search needs
+both-requires-2 c κs = tt
 
 returns : tie.Need-returns
 returns c =

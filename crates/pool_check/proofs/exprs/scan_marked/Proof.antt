@@ -3,10 +3,14 @@ use Rattle.pool_check.proofs.exprs.scan_marked.Statement.{statement}
 use Rattle.pool_check.proofs.exprs.scan_marked.Tie as tie
 
 mark-naturals-requires : tie.Need-mark-naturals-requires
-mark-naturals-requires c κs = search needs
+mark-naturals-requires c κs =
+    let start = c .before .before .before .before .before in
+    (start .pre .0 .of-names, start .pre .1)
 
 scan-exprs-requires : tie.Need-scan-exprs-requires
-scan-exprs-requires c κs = search needs
+scan-exprs-requires c κs =
+    let start = c .before .before .before .before .before .before .before .before .before in
+    start .pre .0
 
 same-length : tie.Need-same-length
 same-length c = search needs

@@ -15,10 +15,10 @@ shared-slice-read-either : tie.Need-shared-slice-read-either
 shared-slice-read-either c = search needs
 
 either-requires : tie.Need-either-requires
-either-requires c κs = search needs
+either-requires c κs = tt
 
 both-requires : tie.Need-both-requires
-both-requires c κs = search needs
+both-requires c κs = tt
 
 returns-2 : tie.Need-returns-2
 returns-2 c =

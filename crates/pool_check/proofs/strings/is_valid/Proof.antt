@@ -15,7 +15,7 @@ shared-slice-read-is-follower : tie.Need-shared-slice-read-is-follower
 shared-slice-read-is-follower c = search needs
 
 is-follower-requires : tie.Need-is-follower-requires
-is-follower-requires c κs = search needs
+is-follower-requires c κs = tt
 
 returns-2 : tie.Need-returns-2
 returns-2 c =
@@ -26,7 +26,7 @@ shared-slice-read-is-follower-2 : tie.Need-shared-slice-read-is-follower-2
 shared-slice-read-is-follower-2 c = search needs
 
 is-follower-requires-2 : tie.Need-is-follower-requires-2
-is-follower-requires-2 c κs = search needs
+is-follower-requires-2 c κs = tt
 
 returns-3 : tie.Need-returns-3
 returns-3 c =
@@ -39,7 +39,7 @@ returns-3 c =
     (at-if1 .if1 .left) (c .before .before .if3 .taken)
 
 larger-requires : tie.Need-larger-requires
-larger-requires c κs = search needs
+larger-requires c κs = tt
 
 ascii-end-requires : tie.Need-ascii-end-requires
 ascii-end-requires c κs = search needs
@@ -54,7 +54,7 @@ part-is-utf8-end : tie.Need-part-is-utf8-end
 part-is-utf8-end c = search needs
 
 is-utf8-requires : tie.Need-is-utf8-requires
-is-utf8-requires c κs = search needs
+is-utf8-requires c κs = tt
 
 returns-4 : tie.Need-returns-4
 returns-4 c =

@@ -11,7 +11,7 @@ use Rattle.pool_check.proofs.strings.string_ok.Statement.{statement}
 use Rattle.pool_check.proofs.strings.string_ok.Tie as tie
 
 string-end-requires : tie.Need-string-end-requires
-string-end-requires c κs = search needs
+string-end-requires c κs = tt
 
 returns : tie.Need-returns
 returns c =
@@ -19,7 +19,7 @@ returns c =
     λ ws. string-outside (over (start .args .bytes .now) (start .args .names .now) ws) (start .args .r) (c .before .string-end .result) (c .before .string-end .ensures .0) (c .if1 .taken)
 
 string-rises-requires : tie.Need-string-rises-requires
-string-rises-requires c κs = search needs
+string-rises-requires c κs = tt
 
 returns-2 : tie.Need-returns-2
 returns-2 c =
