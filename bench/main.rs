@@ -173,13 +173,45 @@ fn pool(n: usize) -> Pool {
     Pool { bytes, words: w }
 }
 
-/// A pool of strings alone, each of them the whole area.
-fn overlapping(area: usize, strings: usize) -> Pool {
-    let mut words = vec![strings as u32, 0, 0, 0, 0, 0, 0];
-    for _ in 0..strings {
-        words.extend([0, area as u32]);
+/// A pool of strings, and of a natural for each string row that is named.
+fn overlapping(bytes: Vec<u8>, strings: impl Iterator<Item = (u32, u32)>, naturals: impl Iterator<Item = u32>) -> Pool {
+    let mut words = vec![0; 7];
+    for (offset, length) in strings {
+        words[0] += 1;
+        words.extend([offset, length]);
     }
-    Pool { bytes: vec![b'n'; area], words }
+    for row in naturals {
+        words[5] += 1;
+        words.extend([8, row, 0, 0, 0, 0, 1, 0]);
+    }
+    Pool { bytes, words }
+}
+
+/// Pools whose strings have bytes in common.
+fn overlaps() -> [(&'static str, Pool); 5] {
+    const AREA: u32 = 1 << 24;
+    let (letters, digits) = (|| "𝔸".repeat(AREA as usize / 4).into_bytes(), || vec![b'7'; AREA as usize]);
+    let whole = |n| std::iter::repeat((0, AREA)).take(n);
+    [
+        ("2,048 strings, each the whole area", overlapping(letters(), whole(2048), 0..0)),
+        ("65,536 strings, each the whole area", overlapping(letters(), whole(65536), 0..0)),
+        ("65,536 strings, in turn from a byte to the end of the area and 4 bytes", overlapping(letters(), (0..65536).map(|i| (i / 2 * 4, if i % 2 == 0 { AREA - i / 2 * 4 } else { 4 })), 0..0)),
+        ("2,048 naturals, all of one string that is the whole area", overlapping(digits(), whole(1), std::iter::repeat(0).take(2048))),
+        ("65,536 naturals of as many strings, each from another byte to the end of the area", overlapping(digits(), (0..65536).map(|i| (i, AREA - i)), (0..65536).rev())),
+    ]
+}
+
+/// The smallest pool, and that of `axiom k : @C`.
+fn smallest() -> [(&'static str, Pool); 2] {
+    let axiom = [
+        [2, 3, 0, 1, 0, 1, 1].as_slice(),
+        &[0, 1, 1, 1],
+        &[0, 0, 0, 0, 1, 0, 0, 0, 1, 0, 1, 0],
+        &[0, 0],
+        &[2, 2, 0, 0, 0, 0, 1, 0],
+        &[0, 1, 0, 0, 0],
+    ];
+    [("no row at all", Pool { bytes: Vec::new(), words: vec![0; 7] }), ("`axiom k : @C`", Pool { bytes: b"kC".to_vec(), words: axiom.concat() })]
 }
 
 /// The sum of all bytes and all words: one pass over the same memory.
@@ -456,10 +488,27 @@ fn main() {
             ours.as_secs_f64() * 1e9 / (7 * n) as f64
         );
     }
-    let p = overlapping(1 << 20, 64);
-    assert!(check(&p).0 == 0);
-    let (ours, once) = (best(5, Duration::from_millis(500), || { black_box(check(black_box(&p))); }), best(5, Duration::from_millis(200), || { black_box(pass(black_box(&p))); }));
-    println!("\nStrings that overlap are read once each: 64 strings that are each the whole of 1,048,576 bytes take {:.0} µs, {:.0} times one pass.", micros(ours), ours.as_secs_f64() / once.as_secs_f64());
+    println!("\nStrings that overlap, in a byte area of 16,777,216 bytes.\n");
+    println!("| pool | words | check, µs | one pass, µs | ratio |");
+    println!("|---|---|---|---|---|");
+    for (name, p) in overlaps() {
+        assert!(check(&p).0 == 0);
+        let ours = best(3, Duration::from_millis(500), || { black_box(check(black_box(&p))); });
+        let once = best(3, Duration::from_millis(200), || { black_box(pass(black_box(&p))); });
+        println!("| {} | {} | {:.0} | {:.0} | {:.1} |", name, p.words.len(), micros(ours), micros(once), ours.as_secs_f64() / once.as_secs_f64());
+    }
+    println!("\nThe smallest pools, the mean of 1,000 calls.\n");
+    println!("| pool | check, ns |");
+    println!("|---|---|");
+    for (name, p) in smallest() {
+        assert!(check(&p).0 == 0);
+        let ours = best(20, Duration::from_millis(200), || {
+            for _ in 0..1000 {
+                black_box(check(black_box(&p)));
+            }
+        });
+        println!("| {} | {:.0} |", name, micros(ours));
+    }
 
     let mut listing = vec![0u8; 1 << 24];
     println!("\n## Layout\n");
