@@ -140,6 +140,62 @@ def layers(count):
     return pi("n", C, first)
 
 
+def neighbours(i, wide):
+    return i, min(i + 1, wide - 1)
+
+
+def twice(i, wide):
+    return 2 * i % wide, (2 * i + 1) % wide
+
+
+def lambda_layers(b, count, wide, leaf, below):
+    """The top one of so many layers of lambdas, each over two rows of the layer below; the lowest are variables."""
+    name, rows = b.name(("x",)), [b.expr(var(leaf + i)) for i in range(wide)]
+    for _ in range(count):
+        pairs = [(rows[below(i, wide)[0]], rows[below(i, wide)[1]]) for i in range(wide)]
+        rows = [b.row(5, (name, 0, of, body), (of,), body) for of, body in pairs]
+    return rows
+
+
+def lambdas_under_a_pi(count, wide, below):
+    b = Builder(False)
+    c, body = b.expr(C), lambda_layers(b, count, wide, 300, below)[0]
+    root = b.row(4, (b.name(("n",)), 0, c, body), (c,), body)
+    return rust.Request(EXPRESSION, root, 2, 80, *b.pool())
+
+
+def two_lambdas(first, second, b):
+    """fun (a : first) (b : second) => c"""
+    c = b.expr(C)
+    inner = b.row(5, (b.name(("b",)), 0, second, c), (second,), c)
+    return rust.Request(EXPRESSION, b.row(5, (b.name(("a",)), 0, first, inner), (first,), inner), 2, 80, *b.pool())
+
+
+def separate_layers(count, wide, below):
+    """The two types in rows of their own: the second's variables are one higher."""
+    b = Builder(False)
+    first = lambda_layers(b, count, wide, 300, below)[0]
+    return two_lambdas(first, lambda_layers(b, count, wide, 301, below)[0], b)
+
+
+def neighbour_layers(count):
+    """The two types are neighbours of one layer: each layer has rows enough that no edge is met."""
+    b = Builder(False)
+    top = lambda_layers(b, count, count + 2, 300, neighbours)
+    return two_lambdas(top[0], top[1], b)
+
+
+def level_layers(count, wide):
+    """fun (a : Sort l) (b : Sort l) => c over layers of `max`, the second in rows of their own."""
+    b, types = Builder(False), []
+    for _ in range(2):
+        rows = [b.append(LEVELS, (4, b.name(("u%d" % i,)), 0)) for i in range(wide)]
+        for _ in range(count):
+            rows = [b.append(LEVELS, (2, rows[twice(i, wide)[0]], rows[twice(i, wide)[1]])) for i in range(wide)]
+        types.append(b.row(1, (rows[0],)))
+    return two_lambdas(types[0], types[1], b)
+
+
 def separate_lambdas(n):
     """fun (a : X) (b : X) => c over X = `app x x` n deep, the second X in rows of its own and its variable lifted by one."""
     return lam("a", self_applied(n, var(0)), lam("b", self_applied(n, var(1)), const("c")))
@@ -156,6 +212,15 @@ def pools():
         yield expression("two lambdas over `app x x` nested %d deep, a variable loose" % n, separate_lambdas(n))
     for n in (30, 45, 60, 120, 240):
         yield expression("%d layers of an application and a lambda, each over both of the layer below, under a pi" % n, layers(n))
+    for wide in (2, 16, 250):
+        for below, over in ((neighbours, "two neighbours"), (twice, "the rows 2i and 2i + 1")):
+            yield "250 layers of %d lambdas, each over %s of the layer below, under a pi" % (wide, over), lambdas_under_a_pi(250, wide, below)
+    for wide in (2, 16, 125):
+        for below, over in ((neighbours, "two neighbours"), (twice, "the rows 2i and 2i + 1")):
+            yield "250 layers of %d lambdas over %s as two lambdas' types, rows of their own" % (wide, over), separate_layers(250, wide, below)
+    yield "250 layers of 252 lambdas over two neighbours, two of the top layer as two lambdas' types", neighbour_layers(250)
+    for wide in (2, 500):
+        yield "62 layers of %d levels `max`, over the rows 2i and 2i + 1, in two lambdas' sorts, rows of their own" % wide, level_layers(62, wide)
 
 
 # ---- the deepest trees

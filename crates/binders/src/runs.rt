@@ -2,12 +2,12 @@
 use crate::chain::is_binder;
 use basics::bools::both;
 use basics::bools::either;
-use compare::occurs::has_var;
 use document::sink::Sink;
 use document::sink::put_break;
 use names::components::is_anonymous;
 use names::names::has_macro_scopes;
 use names::names::pp_name_safe;
+use occurrence::occurs::has_var;
 use pieces::words::UNDERSCORE;
 use pieces::words::put_word;
 use pool::fields::binder_body;
@@ -133,7 +133,7 @@ pub fn level_of(arrow: bool) -> usize
     0
 }
 
-// A binder's name; "_" if it is anonymous and its variable does not occur.
+// A binder's name; "_" if it is anonymous and its variable does not occur. After a refusal nobody asks whether it does.
 pub fn pp_binder_name(
     bytes: &[u8],
     names: &[u32],
@@ -148,6 +148,9 @@ pub fn pp_binder_name(
         × (binderKind (exprWord (now words) r 0) ≡ true) ⌝ }
     ensures { λ v. ⌜ Leaves rows text s v (emit (binderName (firstBinder (exprAt (lent bytes names words) r)))) ⌝ }
 {
+    if s.stop != 0 {
+        return s;
+    }
     let name = binder_name(words, t, r);
     let hidden = both(
         is_anonymous(bytes, names, words, t, name),

@@ -23,11 +23,11 @@ use Rattle.pool.proofs.ExprUnfolds.{kind-small, depth-word, loose-word, label-w
 use Rattle.pool.proofs.ExprUnfolds.{sort-ok, const-ok, pi-ok, lam-ok, let-ok, proj-ok, nat-ok, str-ok}
 use Rattle.compare.specs.Seen.{packed, isHeld}
 use Rattle.pool.specs.Ready.{Ready}
-use Rattle.compare.specs.Parts.{firstPart, secondPart, bodyPart, sameAt}
-use Rattle.compare.specs.Equal.{Quick, Compared, treesSame, EqualTrees, namesSame, levelsSame, besides, stringOf, fieldsSame, partsSame, OneKind, TwoRows}
-use Rattle.compare.specs.Equal.{TwoParts, Children}
+use Rattle.occurrence.specs.Parts.{firstPart, secondPart, bodyPart}
+use Rattle.compare.specs.Equal.{Quick, Compared, treesSame, EqualTrees, namesSame, levelsSame, besides, stringOf, fieldsSame, partsSame, ByParts, OneKind, TwoRows}
+use Rattle.compare.specs.Equal.{sameAt, TwoParts, Children}
 use Rattle.compare.proofs.SeenLaws.{holds-hit, holds-put}
-use Rattle.compare.proofs.PartLaws.{ten, first-lower, second-lower, body-lower}
+use Rattle.occurrence.proofs.PartLaws.{ten, first-lower, second-lower, body-lower}
 use Rattle.compare.proofs.LevelLaws.{they-differ, they-agree, they-may}
 
 -- ---- a first look
@@ -407,6 +407,34 @@ module _ (bs ns ws : List ℕ) (t : Tables) (known : List ℕ) (d a b c : ℕ) (
             children-agree e slot k known₂ kk e₂ =
                 let r : Same ≡ true = by ∙ rw (← ev, y, ← c₁ .answer, e) in
                 record { answer = sym r; holds = rw e₂ (holds-put (EqualTrees pool₃ d) known₁ slot k a b c (c₁ .holds) kk r) }
+
+-- ---- all but the parts
+
+module _ (bs ns ws : List ℕ) (t : Tables) (ready : Ready bs ns ws t) (d a b c : ℕ) (ha : a < E ws) (hb : b < E ws) (q : ℕ)
+    (quick : Quick (treesSame (over bs ns ws) d c a b) (exprWord ws a 0 ≡ exprWord ws b 0) q) where
+  abbrev pool₅ : Pool
+  pool₅ = over bs ns ws
+
+  pub agree-quick : q < 2 → Quick (treesSame pool₅ d c a b) (ByParts pool₅ d c a b) q
+  agree-quick h =
+      record { different = quick .different; equal = quick .equal; left = λ m n. absurd (omega (arith, m, n)) }
+
+  module _ (h : 2 ≤ q) (kind : ℕ) (ek : kind ≡ exprWord ws a 0) where
+    one : exprWord ws a 0 ≡ exprWord ws b 0
+    one = quick .left (λ e. omega arith) (λ e. omega arith)
+
+    pub agree-kind : OneKind bs ns ws t a b kind
+    agree-kind = record { ready = ready; a-row = ha; b-row = hb; a-kind = ek; b-kind = ek ∙ one }
+
+    by-fields : treesSame pool₅ d c a b ≡ fieldsSame pool₅ d c a b kind && partsSame pool₅ d c a b kind
+    by-fields = by-kind pool₅ (ready .sound) a b ha hb d c kind (sym ek) (sym (ek ∙ one))
+
+    module _ (v : Bool) (ev : v ≡ fieldsSame pool₅ d c a b kind) where
+      pub agree-not : v ≡ false → Quick (treesSame pool₅ d c a b) (ByParts pool₅ d c a b) 0
+      agree-not e = they-differ _ _ (by-fields ∙ rw (← ev, e))
+
+      pub agree-open : v ≡ true → Quick (treesSame pool₅ d c a b) (ByParts pool₅ d c a b) 2
+      agree-open e = they-may _ _ (record { one = one; both = by-fields ∙ rw (← ev, e) (ap (partsSame pool₅ d c a b) ek) })
 
 -- ---- the fields of each kind
 

@@ -3,22 +3,26 @@ use Prim.Native.Nat.{ℕ, zero, suc, _+_, _-_, _<_, _≤_}
 use native.Mathlib.Omega.{arith}
 use mathlib.Core.Bool.{Bool, true, false, _&&_}
 use mathlib.Core.List.{List}
-use mathlib.Core.Path.{_≡_, refl, sym, ap, ap₂, _∙_}
+use mathlib.Core.Path.{_≡_, refl, sym, ap, ap₂, _∙_, subst}
+use lib.Dec.{eqb}
 use lib.ListN.{length, set}
-use Rattle.basics.proofs.Booleans.{and-true, not-so}
+use Rattle.basics.proofs.Booleans.{and-true, and-both, true-false, not-so}
 use Rattle.utf8.specs.Letterlike.{sameBytes}
 use Rattle.pool.specs.declared.tables.Tables.{Tables}
 use Rattle.pool.specs.Tables.{Pool, N, L, K, Q, levelWord, listWord, listEntry}
 use Rattle.pool.specs.Areas.{over}
-use Rattle.pool.specs.Tree.{Level, zeroˡ, nameShape, levelShape, levelShapes, sameShape, sameShapes}
+use Rattle.pool.specs.Tree.{Shape, Level, zeroˡ, nameShape, levelShape, levelShapes, sameShape, sameShapes}
 use Rattle.pool.specs.Unfold.{nameAt, levelAt, levelsFrom, listAt}
-use Rattle.pool.proofs.TreeLaws.{shape-same, shapes-same, labels-differ, levels-equal}
+use Rattle.pool.proofs.TreeLaws.{shape-same, shape-equal, shapes-same, labels-differ, levels-equal}
 use Rattle.pool.proofs.RowUnfolds.{zero-at, succ-at, max-at, imax-at, param-at, succ-ok, succ-rest, max-ok, imax-ok, param-ok, level-kind-small, level-label-word}
 use Rattle.pool.proofs.RowUnfolds.{list-fits, entry-fits}
 use Rattle.compare.specs.Seen.{packed, isHeld, Holds}
 use Rattle.pool.specs.Ready.{Ready}
-use Rattle.compare.specs.Equal.{Quick, Compared, levelsSame, EqualLevels, Branches, TwoLevels, listsSame, TwoLists}
-use Rattle.compare.proofs.SeenLaws.{holds-hit, holds-put, holds-none}
+use Rattle.links.specs.Links.{Clear, Linked, Settled}
+use Rattle.links.proofs.LinkLaws.{clear-owes}
+use Rattle.occurrence.specs.Asked.{Told}
+use Rattle.compare.specs.Equal.{Quick, Compared, levelsSame, levelShapeAt, EqualLevels, Branches, TwoLevels, listsSame, TwoLists}
+use Rattle.compare.proofs.SeenLaws.{holds-hit, holds-put}
 
 -- ---- a first look
 
@@ -198,6 +202,82 @@ module _ (bs ns ws : List ℕ) (t : Tables) (known : List ℕ) (a b : ℕ) (s : 
                 let r : levelsSame pool a b ≡ true = open-now .both ∙ rw (is₁, y₁, is₂, e) in
                 record { answer = sym r; holds = rw e₃ (holds-put (EqualLevels pool) known₂ slot k a b 0 (c₂ .holds) ek r) }
 
+-- ---- in few steps, and in a pass
+
+module _ (bs ns ws : List ℕ) (t : Tables) (a b : ℕ) (q : ℕ) (quick : Quick (levelsSame (over bs ns ws) a b) (Branches (over bs ns ws) a b) q) where
+  abbrev pool₄ : Pool
+  pool₄ = over bs ns ws
+
+  abbrev S : ℕ → Shape
+  S = levelShapeAt pool₄
+
+  pub told-quick : Told (levelsSame pool₄ a b) q
+  told-quick = record { no = quick .different; yes = quick .equal }
+
+  pub equal-is : levelsSame pool₄ a b ≡ true → S a ≡ S b
+  equal-is e = shape-equal (S a) (S b) e
+
+  pub is-equal : (x y : ℕ) → S x ≡ S y → levelsSame pool₄ x y ≡ true
+  is-equal x y e = subst (λ (z : Shape). sameShape (S x) z ≡ true) e (shape-same (S x))
+
+  pub no-glance : q ≡ 0 → S a ≡ S b → ⊥
+  no-glance e h = true-false (sym (is-equal a b h) ∙ quick .different e)
+
+  pub a-glance : q ≡ 1 → S a ≡ S b
+  a-glance e = equal-is (quick .equal e)
+
+  module _ (n : 2 ≤ q) where
+    open-then : Branches pool₄ a b
+    open-then = quick .left (λ e. omega arith) (λ e. omega arith)
+
+    pub firsts-lower : (x y : ℕ) → x ≡ levelWord ws a 1 → y ≡ levelWord ws b 1 → (x < a) × (y < b)
+    firsts-lower x y ex ey = (rw ex (open-then .lower₁), rw ey (open-then .lower₃))
+
+    pub seconds-lower : (x y : ℕ) → x ≡ levelWord ws a 2 → y ≡ levelWord ws b 2 → (x < a) × (y < b)
+    seconds-lower x y ex ey = (rw ex (open-then .lower₂), rw ey (open-then .lower₄))
+
+    module _ (x y u w : ℕ) (ex : x ≡ levelWord ws a 1) (ey : y ≡ levelWord ws b 1) (eu : u ≡ levelWord ws a 2) (ew : w ≡ levelWord ws b 2) where
+      by-both : levelsSame pool₄ a b ≡ levelsSame pool₄ x y && levelsSame pool₄ u w
+      by-both = open-then .both ∙ ap₂ _&&_ (ap₂ (levelsSame pool₄) (sym ex) (sym ey)) (ap₂ (levelsSame pool₄) (sym eu) (sym ew))
+
+      pub from-both : S x ≡ S y → S u ≡ S w → S a ≡ S b
+      from-both f g = equal-is (by-both ∙ rw (is-equal x y f, is-equal u w g))
+
+      pub to-both : S a ≡ S b → (S x ≡ S y) × (S u ≡ S w)
+      to-both e =
+          let h = and-both (levelsSame pool₄ x y) (levelsSame pool₄ u w) (sym by-both ∙ is-equal a b e) in
+          (shape-equal (S x) (S y) (h .0), shape-equal (S u) (S w) (h .1))
+
+    module _ (x y : ℕ) (ex : x ≡ levelWord ws a 1) (ey : y ≡ levelWord ws b 1) (v₁ : ℕ) (t₁ : Told (levelsSame pool₄ x y) v₁) where
+      pub told-one : (v₁ ≡ 1 → ⊥) → Told (levelsSame pool₄ a b) v₁
+      told-one f = record { no = λ z. by-both x y _ _ ex ey refl refl ∙ rw (t₁ .no z); yes = λ z. absurd (f z) }
+
+      pub told-two : v₁ ≡ 1 → (u w : ℕ) → u ≡ levelWord ws a 2 → w ≡ levelWord ws b 2 → (v₂ : ℕ) → Told (levelsSame pool₄ u w) v₂
+          → Told (levelsSame pool₄ a b) v₂
+      told-two o u w eu ew v₂ t₂ =
+          record {
+            no = λ z. by-both x y u w ex ey eu ew ∙ rw (t₁ .yes o, t₂ .no z);
+            yes = λ z. by-both x y u w ex ey eu ew ∙ rw (t₁ .yes o, t₂ .yes z);
+          }
+
+pub told-none : (asked : Bool) → Told asked 2
+told-none asked = record { no = λ e. absurd (omega arith); yes = λ e. absurd (omega arith) }
+
+-- a pass over what a clear array and one pair of rows owe
+pub told-pass : (p : Pool) (a b : ℕ) (before after : List ℕ) (v : ℕ) → Clear before → Linked before after a b → Settled (levelShapeAt p) after v
+    → Told (levelsSame p a b) v
+told-pass p a b before after v c l s =
+    record {
+      no = λ e. not-so _ (λ q. s .refuted e (l .up (levelShapeAt p) (clear-owes _ _ before c) (shape-equal _ _ q)));
+      yes = λ e. subst (λ (z : Shape). sameShape (levelShapeAt p a) z ≡ true) (l .tied (levelShapeAt p) (s .holds e)) (shape-same _);
+    }
+
+-- what is told is the answer
+pub told-is : (asked : Bool) (v : ℕ) → Told asked v → v < 2 → eqb v 1 ≡ asked
+told-is asked zero t h = lib.Dec.eqb·zero-suc 0 ∙ sym (t .no refl)
+told-is asked (suc zero) t h = sym (t .yes refl)
+told-is asked (suc (suc v)) t h = absurd (omega arith)
+
 -- ---- lists
 
 module _ (bs ns ws : List ℕ) (t : Tables) (x y n i : ℕ) (v : Bool) where
@@ -236,17 +316,15 @@ module _ (bs ns ws : List ℕ) (t : Tables) (x y n i : ℕ) (v : Bool) where
   unfolding levelsFrom levelShapes sameShape
   list-end h s = let e : n - i ≡ 0 = omega arith in sym (ap (listsSame pool₂ (x + i) (y + i)) e) ∙ s
 
-pub entries-there : (bs ns ws : List ℕ) (t : Tables) (known later : List ℕ) (x y n i l m : ℕ) → TwoLists bs ns ws t known x y n → i < n
-    → Holds (EqualLevels (over bs ns ws)) later → l ≡ listEntry ws (x + i) → m ≡ listEntry ws (y + i) → TwoLevels bs ns ws t later l m
-entries-there bs ns ws t known later x y n i l m s h holds el em =
+pub entries-there : (bs ns ws : List ℕ) (t : Tables) (x y n i l m : ℕ) → TwoLists bs ns ws t x y n → i < n
+    → l ≡ listEntry ws (x + i) → m ≡ listEntry ws (y + i) → Ready bs ns ws t × (l < L ws) × (m < L ws)
+entries-there bs ns ws t x y n i l m s h el em =
     let gx : x + i < Q ws = omega (arith, s .x-fits) in
-    let gy : y + i < Q ws = omega (arith, s .y-fits) in
-    record {
-      ready = s .ready;
-      a-row = rw el (entry-fits (over bs ns ws) (s .ready .sound) (x + i) gx);
-      b-row = rw em (entry-fits (over bs ns ws) (s .ready .sound) (y + i) gy);
-      holds = holds;
-    }
+    let gy : y + i < Q ws = omega (arith, s .y-fits) in (
+      s .ready,
+      rw el (entry-fits (over bs ns ws) (s .ready .sound) (x + i) gx),
+      rw em (entry-fits (over bs ns ws) (s .ready .sound) (y + i) gy),
+    )
 
 module _ (bs ns ws : List ℕ) (t : Tables) (ready : Ready bs ns ws t) (a b : ℕ) (ha : a < K ws) (hb : b < K ws) where
   abbrev pool₃ : Pool
@@ -270,11 +348,11 @@ module _ (bs ns ws : List ℕ) (t : Tables) (ready : Ready bs ns ws t) (a b : �
         sym (not-so _ (λ q. ne (em ∙ sym (from-length _ _) ∙ ap length (levels-equal (listAt pool₃ a) (listAt pool₃ b) q) ∙ from-length _ _ ∙ sym en)))
 
     module _ (e : m ≡ n) (x y : ℕ) (ex : x ≡ listWord ws a 0) (ey : y ≡ listWord ws b 0) where
-      pub lists-there : (k : ℕ) → TwoLists bs ns ws t (lib.ListN.replicate k 0) x y m
-      lists-there k =
+      pub lists-there : TwoLists bs ns ws t x y m
+      lists-there =
           let ga : listWord ws a 0 + listWord ws a 1 ≤ Q ws = list-fits pool₃ (ready .sound) a ha in
           let gb : listWord ws b 0 + listWord ws b 1 ≤ Q ws = list-fits pool₃ (ready .sound) b hb in
-          record { ready = ready; x-fits = omega arith; y-fits = omega arith; holds = holds-none (EqualLevels pool₃) k }
+          record { ready = ready; x-fits = omega arith; y-fits = omega arith }
 
       pub lists-are : (v : Bool) → v ≡ listsSame pool₃ x y m → v ≡ lists
       unfolding listAt

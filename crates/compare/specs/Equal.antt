@@ -1,5 +1,5 @@
 -- Equality of two rows, by the fields that are no parts and by the parts.
-use Prim.Native.Nat.{ℕ, suc, _+_, _*_, _<_, _≤_}
+use Prim.Native.Nat.{ℕ, zero, suc, _+_, _*_, _<_, _≤_}
 use mathlib.Core.Bool.{Bool, true, false, _&&_, cond}
 use mathlib.Core.List.{List}
 use mathlib.Core.Path.{_≡_}
@@ -10,10 +10,10 @@ use Rattle.pool.specs.declared.tables.Tables.{Tables}
 use Rattle.pool.specs.Tables.{Pool, N, L, Q, E, stringWord, nameWord, levelWord, exprWord}
 use Rattle.pool.specs.Areas.{over}
 use Rattle.pool.specs.Ready.{Ready}
-use Rattle.pool.specs.Tree.{nameShape, levelShape, levelShapes, sameShape, sameShapes, lift, same}
+use Rattle.pool.specs.Tree.{Shape, nameShape, levelShape, levelShapes, sameShape, sameShapes, lift, same}
 use Rattle.pool.specs.Unfold.{nameAt, levelAt, levelsFrom, listAt, exprAt}
 use Rattle.compare.specs.Seen.{Holds}
-use Rattle.compare.specs.Parts.{firstPart, secondPart, bodyPart, sameAt}
+use Rattle.occurrence.specs.Parts.{firstPart, secondPart, bodyPart}
 
 -- the bytes of string row r
 abbrev pub stringOf : List ℕ → List ℕ → ℕ → List ℕ
@@ -50,6 +50,10 @@ pub record Compared (P : ℕ → ℕ → ℕ → Type 0) (asked : Bool) (known :
 
 -- ---- levels
 
+-- what a level row is
+abbrev pub levelShapeAt : Pool → ℕ → Shape
+levelShapeAt p r = levelShape (levelAt p r)
+
 abbrev pub levelsSame : Pool → ℕ → ℕ → Bool
 levelsSame p a b = sameShape (levelShape (levelAt p a)) (levelShape (levelAt p b))
 
@@ -76,17 +80,23 @@ pub record TwoLevels (bs ns ws : List ℕ) (t : Tables) (known : List ℕ) (a b 
 abbrev pub listsSame : Pool → ℕ → ℕ → ℕ → Bool
 listsSame p x y n = sameShapes (levelShapes (levelsFrom p x n)) (levelShapes (levelsFrom p y n))
 
-pub record TwoLists (bs ns ws : List ℕ) (t : Tables) (known : List ℕ) (x y n : ℕ) : Type 0 where
+pub record TwoLists (bs ns ws : List ℕ) (t : Tables) (x y n : ℕ) : Type 0 where
   pub ready : Ready bs ns ws t
   pub x-fits : x + n ≤ Q ws
   pub y-fits : y + n ≤ Q ws
-  pub holds : Holds (EqualLevels (over bs ns ws)) known
 
 -- ---- expressions
 
 -- the tree of row a, lifted by d from c on, and that of row b
 abbrev pub treesSame : Pool → ℕ → ℕ → ℕ → ℕ → Bool
 treesSame p d c a b = same (lift d c (exprAt p a)) (exprAt p b)
+
+-- whether two parts are equal, once the first is lifted by d from c on
+unfoldable pub sameAt : Pool → ℕ → ℕ → ℕ → ℕ → Bool
+sameAt p d c zero zero = true
+sameAt p d c zero (suc b) = false
+sameAt p d c (suc a) zero = false
+sameAt p d c (suc a) (suc b) = same (lift d c (exprAt p a)) (exprAt p b)
 
 -- (row, row, from where on): the trees are equal
 abbrev pub EqualTrees : Pool → ℕ → ℕ → ℕ → ℕ → Type 0
@@ -117,6 +127,11 @@ partsSame p d c a b k =
     sameAt p d c (firstPart (p .words) a k) (firstPart (p .words) b k)
     && (sameAt p d c (secondPart (p .words) a k) (secondPart (p .words) b k)
     && sameAt p d (suc c) (bodyPart (p .words) a k) (bodyPart (p .words) b k))
+
+-- two rows of one kind that are equal where their parts are
+pub record ByParts (p : Pool) (d c a b : ℕ) : Type 0 where
+  pub one : exprWord (p .words) a 0 ≡ exprWord (p .words) b 0
+  pub both : treesSame p d c a b ≡ partsSame p d c a b (exprWord (p .words) a 0)
 
 -- two rows of one kind
 pub record OneKind (bs ns ws : List ℕ) (t : Tables) (a b kind : ℕ) : Type 0 where

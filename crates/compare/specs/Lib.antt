@@ -1,4 +1,2 @@
 pub mod Seen
-pub mod Parts
-pub mod Asked
 pub mod Equal

@@ -1,8 +1,8 @@
 // Equality of the trees of two rows, the first one lifted.
 use super::levels;
 use super::names;
-use super::parts;
 use super::seen;
+use occurrence::parts;
 use pool::fields;
 use pool::kinds::EXPR_APP;
 use pool::kinds::EXPR_CONST;
@@ -21,8 +21,7 @@ ghost use Rattle.pool.specs.Tables.{E, exprWord};
 ghost use Rattle.pool.specs.Tree.{levelShapes, sameShapes, same, lift};
 ghost use Rattle.pool.specs.Unfold.{listAt, exprAt};
 ghost use Rattle.pool.specs.Ready.{Ready};
-ghost use Rattle.compare.specs.Parts.{sameAt};
-ghost use Rattle.compare.specs.Equal.{Quick, Compared, treesSame, EqualTrees, namesSame, besides, fieldsSame, partsSame, OneKind, TwoRows, TwoParts, Children};
+ghost use Rattle.compare.specs.Equal.{Quick, Compared, treesSame, sameAt, EqualTrees, namesSame, besides, fieldsSame, partsSame, ByParts, OneKind, TwoRows, TwoParts, Children};
 
 // A first look: 0 where they differ, 1 where they are equal, 2 where they are of one kind and may be either.
 fn glance(
@@ -268,7 +267,8 @@ fn pair(
     tree(bytes, names, words, t, known, d, x - 1, y - 1, c)
 }
 
-fn compare_all(
+// With a table: for rows past every array of a sweep, which an accepted pool has not.
+pub fn compare_all(
     bytes: &[u8],
     names: &[u32],
     words: &[u32],
@@ -284,26 +284,27 @@ fn compare_all(
     tree(bytes, names, words, t, &mut known, d, a, b, 0)
 }
 
-// Whether the tree of row a, its loose variables lifted by d, is that of row b, all fields. A first look comes before there is a table
-// to clear.
-pub fn same_lifted(
+// What two rows are but for their parts: 0 where they differ, 1 where they are equal, 2 where their parts say.
+pub fn agree(
     bytes: &[u8],
     names: &[u32],
     words: &[u32],
     t: Tables,
+    d: usize,
     a: usize,
     b: usize,
-    d: usize,
-) -> bool
+    c: usize,
+) -> usize
     requires { ⌜ (Ready (now bytes) (now names) (now words) t) × (a < E (now words)) × (b < E (now words)) ⌝ }
-    ensures { λ v. ⌜ v ≡ same (lift d 0 (exprAt (lent bytes names words) a)) (exprAt (lent bytes names words) b) ⌝ }
+    ensures { λ v. ⌜ Quick (treesSame (lent bytes names words) d c a b) (ByParts (lent bytes names words) d c a b) v ⌝ }
 {
-    let quick = glance(bytes, names, words, t, d, a, b, 0);
-    if quick == 0 {
-        return false;
+    let quick = glance(bytes, names, words, t, d, a, b, c);
+    if quick < 2 {
+        return quick;
     }
-    if quick == 1 {
-        return true;
+    let kind = fields::expr_kind(words, t, a);
+    if !fields(bytes, names, words, t, d, a, b, c, kind) {
+        return 0;
     }
-    compare_all(bytes, names, words, t, a, b, d)
+    2
 }

@@ -1,6 +1,6 @@
 use borrow.Author.Needs.{needs}
 use native.Mathlib.Omega.{arith}
-use mathlib.Core.Path.{_≡_, refl, sym, ap, _∙_}
+use mathlib.Core.Path.{refl, sym, _∙_}
 use Rattle.pool.specs.Areas.{over}
 use Rattle.binders.proofs.LoopLaws.{Pushing, pushing-start, pushing-row, pushing-fits, pushing-next, pushing-falls, pushing-done}
 use Rattle.binders.proofs.chain.push_chain.Statement.{statement}

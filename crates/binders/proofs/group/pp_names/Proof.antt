@@ -1,5 +1,4 @@
 use native.Mathlib.Omega.{arith}
-use mathlib.Core.Path.{_≡_, refl, sym, ap, _∙_}
 use Rattle.binders.proofs.NamingLaws.{some-binder, fewer-left, lower-row, first-name}
 use borrow.Author.Needs.{needs}
 use Rattle.binders.proofs.group.pp_names.Statement.{statement}

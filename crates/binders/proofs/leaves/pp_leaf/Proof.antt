@@ -1,5 +1,5 @@
 use Rattle.binders.proofs.LeafLaws.{sort-row, const-row, nat-row, str-row, sort-leaf, const-leaf, nat-leaf, str-leaf, last-kind}
-use mathlib.Core.Path.{_≡_, refl, sym, ap, _∙_}
+use mathlib.Core.Path.{_∙_}
 use borrow.Author.Needs.{needs}
 use Rattle.binders.proofs.leaves.pp_leaf.Statement.{statement}
 use Rattle.binders.proofs.leaves.pp_leaf.Tie as tie

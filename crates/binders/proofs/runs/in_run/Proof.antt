@@ -1,5 +1,5 @@
 use Rattle.binders.specs.Steps.{binderKind}
-use mathlib.Core.Path.{_≡_, refl, sym, ap, _∙_}
+use mathlib.Core.Path.{refl, sym, ap, _∙_}
 use Rattle.binders.proofs.BinderLaws.{pis-at, lambdas-at, no-run, turned-true, turned-false}
 use borrow.Author.Needs.{needs}
 use Rattle.binders.proofs.runs.in_run.Statement.{statement}

@@ -1,5 +1,4 @@
 use native.Mathlib.Omega.{arith}
-use mathlib.Core.Path.{_≡_, refl, sym, ap, _∙_}
 use Rattle.binders.proofs.BinderLaws.{binder-here, used-at}
 use borrow.Author.Needs.{needs}
 use Rattle.binders.proofs.runs.is_used.Statement.{statement}

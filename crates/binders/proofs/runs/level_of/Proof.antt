@@ -1,6 +1,6 @@
 use Prim.Native.Nat.{ℕ}
 use mathlib.Core.Bool.{Bool, cond}
-use mathlib.Core.Path.{_≡_, refl, sym, ap, _∙_}
+use mathlib.Core.Path.{sym, ap}
 use native.Mathlib.Omega.{arith}
 use Rattle.binders.specs.Steps.{levelOf}
 use Rattle.binders.proofs.runs.level_of.Statement.{statement}

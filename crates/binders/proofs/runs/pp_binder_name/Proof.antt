@@ -1,16 +1,22 @@
 use native.Mathlib.Omega.{arith}
-use mathlib.Core.Path.{_≡_, refl, sym, ap, _∙_}
+use mathlib.Core.Path.{sym, _∙_}
+use borrow.Author.Tests.{ne-eqb}
+use Rattle.document.specs.Sink.{state}
+use Rattle.pieces.proofs.Emitting.{emit-stopped}
 use Rattle.binders.proofs.BinderLaws.{binder-here, hidden-name, shown-name}
 use borrow.Author.Needs.{needs}
 use Rattle.binders.proofs.runs.pp_binder_name.Statement.{statement}
 use Rattle.binders.proofs.runs.pp_binder_name.Tie as tie
+
+returns : tie.Need-returns
+returns c = sym (emit-stopped _ (state _ _ _) (ne-eqb _ 0 (c .if1 .taken)))
 
 binder-name-requires : tie.Need-binder-name-requires
 binder-name-requires c κs = search needs
 
 is-anonymous-requires : tie.Need-is-anonymous-requires
 is-anonymous-requires c κs =
-    let start = c .before .before .before .before .before .before in
+    let start = c .before .before .before .before .before .before .before .before in
     let row = binder-here _ (start .pre .0 .ready .sound) _ (start .pre .1) (start .pre .2) in (start .pre .0 .ready, omega (arith, row .name, c .binder-name .ensures .0))
 
 is-used-requires : tie.Need-is-used-requires
@@ -28,23 +34,22 @@ same-length c = search needs
 same-length-2 : tie.Need-same-length-2
 same-length-2 c = search needs
 
-returns : tie.Need-returns
-returns c =
+returns-2 : tie.Need-returns-2
+returns-2 c =
     let at-put-word = c .before .before .before .before in
-    let at-if1 = at-put-word .before .before .before in
-    let at-both = at-if1 .before in
+    let at-if2 = at-put-word .before .before .before in
+    let at-both = at-if2 .before in
     let at-is-used = at-both .before in
     let at-is-anonymous = at-is-used .before in
     let at-binder-name = at-is-anonymous .before in
-    let start = at-binder-name .before .before .before .before .before .before in
-    at-put-word .put-word .ensures
-    ∙ hidden-name _ (start .pre .0 .ready .sound) _ (start .pre .1) (start .pre .2) _ _ _ _ _ (at-binder-name .binder-name .ensures .0)
-    (at-is-anonymous .is-anonymous .ensures) (at-is-used .is-used .ensures) (at-both .both .ensures) (at-if1 .if1 .taken)
+    let start = at-binder-name .before .before .before .before .before .before .before .before in
+    at-put-word .put-word .ensures ∙ hidden-name _ (start .pre .0 .ready .sound) _ (start .pre .1) (start .pre .2) _ _ _ _ _ (at-binder-name .binder-name .ensures .0)
+    (at-is-anonymous .is-anonymous .ensures) (at-is-used .is-used .ensures) (at-both .both .ensures) (at-if2 .if2 .taken)
 
 pp-name-safe-requires : tie.Need-pp-name-safe-requires
 pp-name-safe-requires c κs =
     let at-binder-name = c .before .before .before .before .before .before in
-    let start = at-binder-name .before .before .before .before .before .before in
+    let start = at-binder-name .before .before .before .before .before .before .before .before in
     let row = binder-here _ (start .pre .0 .ready .sound) _ (start .pre .1) (start .pre .2) in (start .pre .0 .ready, omega (arith, row .name, at-binder-name .binder-name .ensures .0))
 
 same-length-3 : tie.Need-same-length-3
@@ -53,23 +58,23 @@ same-length-3 c = search needs
 same-length-4 : tie.Need-same-length-4
 same-length-4 c = search needs
 
-returns-2 : tie.Need-returns-2
-returns-2 c =
+returns-3 : tie.Need-returns-3
+returns-3 c =
     let at-pp-name-safe = c .before .before .before .before in
-    let at-if1 = at-pp-name-safe .before .before .before in
-    let at-both = at-if1 .before in
+    let at-if2 = at-pp-name-safe .before .before .before in
+    let at-both = at-if2 .before in
     let at-is-used = at-both .before in
     let at-is-anonymous = at-is-used .before in
     let at-binder-name = at-is-anonymous .before in
-    let start = at-binder-name .before .before .before .before .before .before in
-    at-pp-name-safe .pp-name-safe .ensures
-    ∙ shown-name _ (start .pre .0 .ready .sound) _ (start .pre .1) (start .pre .2) _ _ _ _ _ (at-binder-name .binder-name .ensures .0)
-    (at-is-anonymous .is-anonymous .ensures) (at-is-used .is-used .ensures) (at-both .both .ensures) (at-if1 .if1 .left)
+    let start = at-binder-name .before .before .before .before .before .before .before .before in
+    at-pp-name-safe .pp-name-safe .ensures ∙ shown-name _ (start .pre .0 .ready .sound) _ (start .pre .1) (start .pre .2) _ _ _ _ _ (at-binder-name .binder-name .ensures .0)
+    (at-is-anonymous .is-anonymous .ensures) (at-is-used .is-used .ensures) (at-both .both .ensures) (at-if2 .if2 .left)
 
 pub pp-binder-name-spec : {M : Type 1} → statement M
 pp-binder-name-spec =
     tie.close
     (tie.spec
+    returns
     binder-name-requires
     is-anonymous-requires
     is-used-requires
@@ -77,8 +82,8 @@ pp-binder-name-spec =
     put-word-requires
     same-length
     same-length-2
-    returns
+    returns-2
     pp-name-safe-requires
     same-length-3
     same-length-4
-    returns-2)
+    returns-3)

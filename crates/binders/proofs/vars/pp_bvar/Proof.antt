@@ -1,7 +1,7 @@
 use Rattle.binders.proofs.ScopeLaws.{place-next, link-within, prints-past, prints-name, entry-named}
 use Rattle.binders.specs.Scopes.{placeIn}
 use lib.ListN.{length}
-use Prim.Native.Nat.{ℕ, _-_, _<_, _≤_}
+use Prim.Native.Nat.{_-_, _<_, _≤_}
 use mathlib.Core.Path.{_≡_, refl, ap, _∙_}
 use native.Mathlib.Omega.{arith}
 use borrow.Author.Needs.{needs}

@@ -1,4 +1,3 @@
-use borrow.Author.Needs.{needs}
 use Rattle.compare.proofs.LevelLaws.{one-row, other-kinds, both-zero, branches, names-there, params-agree, params-differ}
 use Rattle.compare.proofs.levels.glance.Statement.{statement}
 use Rattle.compare.proofs.levels.glance.Tie as tie

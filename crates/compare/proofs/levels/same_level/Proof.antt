@@ -1,26 +1,41 @@
+use Rattle.compare.proofs.LevelLaws.{told-is}
 use borrow.Author.Needs.{needs}
-use Rattle.pool.specs.Areas.{over}
-use Rattle.compare.specs.Equal.{EqualLevels}
-use Rattle.compare.proofs.SeenLaws.{holds-none}
 use Rattle.compare.proofs.levels.same_level.Statement.{statement}
 use Rattle.compare.proofs.levels.same_level.Tie as tie
 
-slice-aggregate-level : tie.Need-slice-aggregate-level
-slice-aggregate-level c = search needs
-
-level-requires : tie.Need-level-requires
-level-requires c κs =
-    let start = c .before .before .before .before in
-    record {
-      ready = start .pre .0;
-      a-row = start .pre .1;
-      b-row = start .pre .2;
-      holds = holds-none
-          (EqualLevels (over (start .args .bytes .now) (start .args .names .now) (start .args .words .now))) 1024;
-    }
+try-level-requires : tie.Need-try-level-requires
+try-level-requires c κs = search needs
 
 returns : tie.Need-returns
-returns c = c .before .level .ensures .answer
+returns c = told-is _ _ (c .before .before .before .try-level .ensures) (c .before .if1 .taken)
+
+few-levels-requires : tie.Need-few-levels-requires
+few-levels-requires c κs = search needs
+
+returns-2 : tie.Need-returns-2
+returns-2 c = told-is _ _ (c .before .few-levels .ensures) (c .if2 .taken)
+
+many-levels-requires : tie.Need-many-levels-requires
+many-levels-requires c κs = search needs
+
+returns-3 : tie.Need-returns-3
+returns-3 c = told-is _ _ (c .before .many-levels .ensures) (c .if3 .taken)
+
+level-all-requires : tie.Need-level-all-requires
+level-all-requires c κs = search needs
+
+returns-4 : tie.Need-returns-4
+returns-4 c = search needs
 
 pub same-level-spec : {M : Type 1} → statement M
-same-level-spec = tie.close (tie.spec slice-aggregate-level level-requires returns)
+same-level-spec =
+    tie.close
+    (tie.spec
+    try-level-requires
+    returns
+    few-levels-requires
+    returns-2
+    many-levels-requires
+    returns-3
+    level-all-requires
+    returns-4)

@@ -25,28 +25,22 @@ list-offset-requires c κs = search needs
 list-offset-requires-2 : tie.Need-list-offset-requires-2
 list-offset-requires-2 c κs = search needs
 
-slice-aggregate-levels : tie.Need-slice-aggregate-levels
-slice-aggregate-levels c = search needs
-
 levels-requires : tie.Need-levels-requires
 levels-requires c κs =
-    let at-list-length2 = c .before .before .before .before in
-    let at-list-length = at-list-length2 .before in
+    let at-list-length = c .before .before .before .before in
     let start = at-list-length .before .before .before .before .before in
     lists-there _ _ _ _ (start .pre .0) _ _ (start .pre .1) (start .pre .2) _ _ (at-list-length .list-length .ensures .0)
-    (at-list-length2 .list-length2 .ensures .0) (c .before .before .before .if2 .left) _ _ (c .before .before .list-offset .ensures .0)
-    (c .before .list-offset2 .ensures .0) 1024
+    (c .before .before .before .list-length2 .ensures .0) (c .before .before .if2 .left) _ _ (c .before .list-offset .ensures .0)
+    (c .list-offset2 .ensures .0)
 
 returns-3 : tie.Need-returns-3
 returns-3 c =
-    let at-list-offset = c .before .before .before .before in
-    let at-if2 = at-list-offset .before in
-    let at-list-length2 = at-if2 .before in
+    let at-list-length2 = c .before .before .before .before in
     let at-list-length = at-list-length2 .before in
     let start = at-list-length .before .before .before .before .before in
     lists-are _ _ _ _ (start .pre .0) _ _ (start .pre .1) (start .pre .2) _ _ (at-list-length .list-length .ensures .0)
-    (at-list-length2 .list-length2 .ensures .0) (at-if2 .if2 .left) _ _ (at-list-offset .list-offset .ensures .0)
-    (c .before .before .before .list-offset2 .ensures .0) _ (c .before .levels .ensures)
+    (at-list-length2 .list-length2 .ensures .0) (c .before .before .before .if2 .left) _ _ (c .before .before .list-offset .ensures .0)
+    (c .before .list-offset2 .ensures .0) _ (c .levels .ensures)
 
 pub same-list-spec : {M : Type 1} → statement M
 same-list-spec =
@@ -58,6 +52,5 @@ same-list-spec =
     returns-2
     list-offset-requires
     list-offset-requires-2
-    slice-aggregate-levels
     levels-requires
     returns-3)

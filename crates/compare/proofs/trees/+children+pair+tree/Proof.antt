@@ -16,9 +16,9 @@ use Rattle.compare.proofs.trees.+children+pair+tree.Lts-pair as pair-lt
 use Rattle.compare.proofs.trees.tree.Reads as tree
 use Rattle.compare.proofs.trees.tree.Kinds as tree-kinds
 use Rattle.compare.proofs.trees.+children+pair+tree.Lts-tree as tree-lts
-use Rattle.compare.proofs.parts.body_part.Reads as body-part-reads
-use Rattle.compare.proofs.parts.first_part.Reads as first-part-reads
-use Rattle.compare.proofs.parts.second_part.Reads as second-part-reads
+use Rattle.occurrence.proofs.parts.body_part.Reads as body-part-reads
+use Rattle.occurrence.proofs.parts.first_part.Reads as first-part-reads
+use Rattle.occurrence.proofs.parts.second_part.Reads as second-part-reads
 use Rattle.compare.proofs.seen.held.Reads as held-reads
 use Rattle.compare.proofs.seen.keep.Reads as keep-reads
 use Rattle.compare.proofs.seen.key.Reads as key-reads

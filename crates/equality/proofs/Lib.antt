@@ -1,0 +1,3 @@
+pub mod MoveLaws
+pub mod SweepLaws
+pub mod TryLaws
