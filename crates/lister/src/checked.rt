@@ -55,7 +55,7 @@ fn finish(s: Sink, width: usize, rows: &mut [u32], text: &mut [u8], listing: &mu
 }
 
 // The expression at row `root`, which the pool has, at an indent and a width within their limits.
-pub fn print_checked_expr(
+pub(crate) fn print_checked_expr(
     bytes: &[u8],
     names: &[u32],
     words: &[u32],
@@ -82,7 +82,7 @@ pub fn print_checked_expr(
 }
 
 // The declaration at row `root`, which the pool has, at an indent and a width within their limits.
-pub fn print_checked_declar(
+pub(crate) fn print_checked_declar(
     bytes: &[u8],
     names: &[u32],
     words: &[u32],
