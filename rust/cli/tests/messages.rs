@@ -115,8 +115,8 @@ fn library_folders() {
     }
 }
 
-/// A repository whose `rt` is this shell script: what `build-library` says and how it ends.
-fn built_by(name: &str, rt: &str) -> (String, String, i32) {
+/// A repository whose `rt` is this shell script: what `build-library` says, kept in the file `messages` of its folder, and how it ends.
+fn built_by(name: &str, rt: &str) -> (String, i32) {
     let place = folder(name);
     for (path, text) in [("crates.txt", ""), ("crates/c/src/f", ""), ("crates/c/specs/f", ""), ("crates/c/proofs/f", ""), ("bin/rt", rt)] {
         std::fs::create_dir_all(place.join(path).parent().unwrap()).unwrap();
@@ -126,23 +126,30 @@ fn built_by(name: &str, rt: &str) -> (String, String, i32) {
     std::fs::copy(top().join("rust/build-library"), place.join("rust/build-library")).unwrap();
     std::fs::set_permissions(place.join("bin/rt"), std::os::unix::fs::PermissionsExt::from_mode(0o755)).unwrap();
     let path = format!("{}:{}", place.join("bin").display(), std::env::var("PATH").unwrap());
-    said(Command::new(place.join("rust/build-library")).env("PATH", path).env_remove("TILUSORGU_LIB_DIR").output().unwrap())
+    let messages = std::fs::File::create(place.join("messages")).unwrap();
+    let mut build = Command::new(place.join("rust/build-library"));
+    let (output, _, status) = said(build.env("PATH", path).env_remove("TILUSORGU_LIB_DIR").stderr(messages).output().unwrap());
+    assert_eq!(output, "");
+    (std::fs::read_to_string(place.join("messages")).unwrap(), status)
 }
 
+/// The `rt` here ends once it is said what it is at, and after a minute at the latest: the test waits for what is said, not for a time.
 #[test]
 fn building_is_not_silent() {
-    let rt = "#!/bin/sh\nmkdir -p target/log target/staticlib\necho 'rt: basics proved (2 s)'\necho 'noise'\n>target/log/pool.say\nsleep 7\n\
+    let rt = "#!/bin/sh\nmkdir -p target/log target/staticlib\necho 'rt: basics proved (2 s)'\necho 'noise'\n>target/log/pool.say\n\
+              for second in $(seq 60); do grep -q 'so far: at pool$' messages && break; sleep 1; done\n\
               date >target/staticlib/liblister_c.a\n";
     let _ = std::fs::remove_dir_all(folder("not_silent"));
-    let (output, messages, status) = built_by("not_silent", rt);
+    let (messages, status) = built_by("not_silent", rt);
     let lines: Vec<&str> = messages.lines().collect();
-    assert!(output.is_empty() && status == 0 && lines.len() == 4, "{messages}");
+    assert!(status == 0 && lines.len() >= 4, "{messages}");
     assert!(lines[0].contains("some 10 minutes"), "{messages}");
-    assert_eq!(lines[1..3], ["build-library: basics proved (2 s)", "build-library: 3 s so far: at pool"]);
-    assert!(lines[3].starts_with("build-library: made target/staticlib/liblister_c.a in "), "{messages}");
+    assert_eq!(lines[1], "build-library: basics proved (2 s)");
+    assert!(lines[2].starts_with("build-library: ") && lines[2].ends_with("3 s so far: at pool"), "{messages}");
+    assert!(lines.last().unwrap().starts_with("build-library: made target/staticlib/liblister_c.a in "), "{messages}");
     // it is made once
-    assert_eq!(built_by("not_silent", rt), (String::new(), String::new(), 0));
-    let (_, messages, status) = built_by("not_proved", "#!/bin/sh\necho 'rt: basics NOT PROVED'\nexit 1\n");
+    assert_eq!(built_by("not_silent", rt), (String::new(), 0));
+    let (messages, status) = built_by("not_proved", "#!/bin/sh\necho 'rt: basics NOT PROVED'\nexit 1\n");
     assert!(messages.contains("\nrt: basics NOT PROVED\nbuild-library: rt did not make the library") && status == 1, "{messages}");
 }
 

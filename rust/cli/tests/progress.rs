@@ -40,7 +40,7 @@ fn asked_for() {
     let pool = common::pool_file("asked.pool", "(axiom k @C)");
     let path = pool.to_str().unwrap();
     let (output, messages, _) = run(&many(path, 3, &["--progress"]));
-    assert_eq!((output.lines().count(), messages.as_str()), (5, "listed 3 of 3 (100 %) in 0 s\n"));
+    assert!(output.lines().count() == 5 && messages.starts_with("listed 3 of 3 (100 %) in ") && messages.ends_with(" s\n"), "{messages}");
     assert_eq!(run(&many(path, 3, &[])).1, "");
     // a terminal shows the listing itself
     assert_eq!(on_terminal(&many(path, 2, &[])).0, "axiom k : @C\n\naxiom k : @C\n");
