@@ -1,7 +1,8 @@
 //! The examples of the pages, held to what the command prints.
 mod common;
 
-use common::{file, folder, on_terminal, run};
+use common::{file, folder, on_terminal, run, said};
+use std::process::Command;
 
 fn page(path: &str) -> String {
     std::fs::read_to_string(format!("{}/../../{path}", env!("CARGO_MANIFEST_DIR"))).unwrap()
@@ -52,4 +53,48 @@ fn example_of_the_readme() {
     let (listing, ..) = run(&["list", pool, "--declar", "Register.cross"]);
     let indented: String = listing.lines().map(|line| format!("    {line}\n")).collect();
     assert!(page("README.md").contains(&indented), "{indented}");
+}
+
+/// A folder with the files of docs/MISTAKES.md.
+fn mistaken() -> std::path::PathBuf {
+    let folder = folder("mistakes");
+    std::fs::remove_dir_all(&folder).unwrap();
+    std::fs::create_dir(&folder).unwrap();
+    let written = |name: &str, bytes: &[u8]| std::fs::write(folder.join(name), bytes).unwrap();
+    written("lemma.txt", page("samples/lemma.txt").as_bytes());
+    written("refused.txt", b"(axiom k (proj S 65535 @s))");
+    written("total.txt", b"(axiom k @C) (words 5)");
+    written("no_body.txt", b"(axiom k (forall (x : @A)))");
+    written("mark.txt", b"\xef\xbb\xbf(axiom k @C)");
+    written("comma.txt", b"(axiom a,b @C)");
+    for name in ["lemma", "refused", "total"] {
+        let path = |ending: &str| folder.join(name).with_extension(ending).into_os_string().into_string().unwrap();
+        assert_eq!(run(&["pack", &path("txt"), "-o", &path("pool")]).2, 0, "{name}");
+    }
+    written("short.pool", &std::fs::read(folder.join("lemma.pool")).unwrap()[..40]);
+    std::os::unix::fs::symlink("lemma.txt", folder.join("link.txt")).unwrap();
+    folder
+}
+
+/// Each line that is typed, what the command says, and its status; no file is changed or made by it.
+#[test]
+fn mistakes() {
+    let (text, folder) = (page("docs/MISTAKES.md"), mistaken());
+    let blocks = blocks(&text);
+    assert!(blocks.len() >= 30, "{} blocks", blocks.len());
+    let files = || {
+        let mut files: Vec<_> =
+            std::fs::read_dir(&folder).unwrap().map(|f| f.unwrap().path()).map(|f| (f.clone(), std::fs::read(f).unwrap())).collect();
+        files.sort();
+        files
+    };
+    let before = files();
+    for (kind, block) in blocks {
+        assert_eq!(kind, ["mistake"], "{block}");
+        let (typed, answer) = block.strip_prefix("$ tilusorgu").unwrap().split_once('\n').unwrap();
+        let line = format!("{}{typed}", env!("CARGO_BIN_EXE_tilusorgu"));
+        let (output, messages, status) = said(Command::new("bash").args(["-c", &line]).current_dir(&folder).output().unwrap());
+        assert_eq!((output.as_str(), format!("{messages}[{status}]\n")), ("", answer.to_string()), "{typed}");
+    }
+    assert!(files() == before, "a file was changed");
 }
