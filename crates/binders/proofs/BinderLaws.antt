@@ -8,7 +8,7 @@ use Rattle.pool.specs.Tables.{Pool, E, exprWord}
 use Rattle.pool.specs.Tree.{occurs}
 use Rattle.pool.specs.Unfold.{nameAt, exprAt}
 use Rattle.pool.specs.Sound.{Sound}
-use Rattle.basics.proofs.Booleans.{and-assoc}
+use Rattle.basics.proofs.Booleans.{and-assoc, or-false, or-second, first-false, first-true}
 use Rattle.document.specs.Sink.{State, putText, emit}
 use Rattle.pieces.specs.Docs.{quoted}
 use Rattle.pieces.specs.Words.{wordBytes}
@@ -35,6 +35,9 @@ module _ (p : Pool) (sound : Sound p) (r : ℕ) (h : r < E (p .words)) where
     name-used : firstBinder (exprAt p r) .used ≡ occurs 0 (exprAt p (w 4))
     name-used = ap (λ (y : Binder). y .used) first-at
 
+    name-at : isAnonymous (firstBinder (exprAt p r) .name) ≡ isAnonymous (nameAt p (w 1))
+    name-at = ap (λ (y : Binder). isAnonymous (y .name)) first-at
+
     arrow-at : isArrow (firstBinder (exprAt p r)) ≡ eqb (w 0) 4 && (eqb (w 2) 0 && (not (firstBinder (exprAt p r) .used) || (isAnonymous (nameAt p (w 1)) || isHygienic (nameAt p (w 1)))))
     unfolding isArrow
     arrow-at =
@@ -47,7 +50,7 @@ module _ (p : Pool) (sound : Sound p) (r : ℕ) (h : r < E (p .words)) where
         ∙ ap (λ (x : Bool). x && (not (firstBinder (exprAt p r) .used) || (isAnonymous (nameAt p (w 1)) || isHygienic (nameAt p (w 1)))))
         (ap₂ (λ (x y : ℕ). eqb x 4 && eqb y 0) (sym ek) (sym es) ∙ sym ev ∙ ef))
 
-    pub arrow-yes : (k s n : ℕ) (v a g named u res : Bool) → k ≡ w 0 → s ≡ w 2 → n ≡ w 1 → v ≡ eqb k 4 && eqb s 0 → v ≡ true →
+    arrow-yes : (k s n : ℕ) (v a g named u res : Bool) → k ≡ w 0 → s ≡ w 2 → n ≡ w 1 → v ≡ eqb k 4 && eqb s 0 → v ≡ true →
         a ≡ isAnonymous (nameAt p n) → g ≡ isHygienic (nameAt p n) → named ≡ a || g → u ≡ firstBinder (exprAt p r) .used → res ≡ not u || named →
         res ≡ isArrow (firstBinder (exprAt p r))
     arrow-yes k s n v a g named u res ek es en ev et ea eg em eu er =
@@ -56,21 +59,38 @@ module _ (p : Pool) (sound : Sound p) (r : ℕ) (h : r < E (p .words)) where
         ∙ ap (λ (x : Bool). x && (not (firstBinder (exprAt p r) .used) || (isAnonymous (nameAt p (w 1)) || isHygienic (nameAt p (w 1)))))
         (ap₂ (λ (x y : ℕ). eqb x 4 && eqb y 0) (sym ek) (sym es) ∙ sym ev ∙ et))
 
+    pub arrow-named : (k s n : ℕ) (v a g named : Bool) → k ≡ w 0 → s ≡ w 2 → n ≡ w 1 → v ≡ eqb k 4 && eqb s 0 → v ≡ true →
+        a ≡ isAnonymous (nameAt p n) → g ≡ isHygienic (nameAt p n) → named ≡ a || g → named ≡ true → true ≡ isArrow (firstBinder (exprAt p r))
+    arrow-named k s n v a g named ek es en ev et ea eg em eb =
+        arrow-yes k s n v a g named _ true ek es en ev et ea eg em refl (or-second (not (firstBinder (exprAt p r) .used)) named eb)
+
+    pub arrow-unused : (k s n : ℕ) (v a g named u res : Bool) → k ≡ w 0 → s ≡ w 2 → n ≡ w 1 → v ≡ eqb k 4 && eqb s 0 → v ≡ true →
+        a ≡ isAnonymous (nameAt p n) → g ≡ isHygienic (nameAt p n) → named ≡ a || g → named ≡ false → u ≡ firstBinder (exprAt p r) .used → res ≡ not u →
+        res ≡ isArrow (firstBinder (exprAt p r))
+    arrow-unused k s n v a g named u res ek es en ev et ea eg em eb eu er =
+        arrow-yes k s n v a g named u res ek es en ev et ea eg em eu (er ∙ sym (or-false (not u)) ∙ ap (λ (x : Bool). not u || x) (sym eb))
+
     -- the name that a listed binder shows
-    pub hidden-name : (n : ℕ) (a u hid : Bool) (st : State) → n ≡ w 1 → a ≡ isAnonymous (nameAt p n) → u ≡ firstBinder (exprAt p r) .used → hid ≡ a && not u →
+    pub no-name : (n : ℕ) (a u v : Bool) → n ≡ w 1 → a ≡ isAnonymous (nameAt p n) → a ≡ true → u ≡ firstBinder (exprAt p r) .used → v ≡ not u →
+        v ≡ isAnonymous (firstBinder (exprAt p r) .name) && not (firstBinder (exprAt p r) .used)
+    no-name n a u v en ea et eu ev =
+        first-true _ _ v (name-at ∙ ap (λ (x : ℕ). isAnonymous (nameAt p x)) (sym en) ∙ sym ea ∙ et) (ev ∙ ap not eu)
+
+    pub some-name : (n : ℕ) (a : Bool) → n ≡ w 1 → a ≡ isAnonymous (nameAt p n) → a ≡ false →
+        false ≡ isAnonymous (firstBinder (exprAt p r) .name) && not (firstBinder (exprAt p r) .used)
+    some-name n a en ea ef = first-false _ _ (name-at ∙ ap (λ (x : ℕ). isAnonymous (nameAt p x)) (sym en) ∙ sym ea ∙ ef)
+
+    pub hidden-name : (hid : Bool) (st : State) → hid ≡ isAnonymous (firstBinder (exprAt p r) .name) && not (firstBinder (exprAt p r) .used) →
         hid ≡ true → putText (wordBytes 36) st ≡ emit (binderName (firstBinder (exprAt p r))) st
     unfolding binderName emit quoted
-    hidden-name n a u hid st en ea eu eh et =
-        sym (ap (λ (x : Bool). emit (cond x (quoted "_") (nameDoc (firstBinder (exprAt p r) .name))) st)
-        (ap₂ (λ (x y : Bool). x && not y) (ap (λ (y : Binder). isAnonymous (y .name)) first-at ∙ ap (λ (x : ℕ). isAnonymous (nameAt p x)) (sym en) ∙ sym ea) (sym eu) ∙ sym eh ∙ et))
+    hidden-name hid st eh et = sym (ap (λ (x : Bool). emit (cond x (quoted "_") (nameDoc (firstBinder (exprAt p r) .name))) st) (sym eh ∙ et))
 
-    pub shown-name : (n : ℕ) (a u hid : Bool) (st : State) → n ≡ w 1 → a ≡ isAnonymous (nameAt p n) → u ≡ firstBinder (exprAt p r) .used → hid ≡ a && not u →
+    pub shown-name : (n : ℕ) (hid : Bool) (st : State) → n ≡ w 1 → hid ≡ isAnonymous (firstBinder (exprAt p r) .name) && not (firstBinder (exprAt p r) .used) →
         hid ≡ false → emit (nameDoc (nameAt p n)) st ≡ emit (binderName (firstBinder (exprAt p r))) st
     unfolding binderName
-    shown-name n a u hid st en ea eu eh ef =
+    shown-name n hid st en eh ef =
         ap (λ (x : ℕ). emit (nameDoc (nameAt p x)) st) en
-        ∙ sym (ap (λ (x : Bool). emit (cond x (quoted "_") (nameDoc (firstBinder (exprAt p r) .name))) st)
-        (ap₂ (λ (x y : Bool). x && not y) (ap (λ (y : Binder). isAnonymous (y .name)) first-at ∙ ap (λ (x : ℕ). isAnonymous (nameAt p x)) (sym en) ∙ sym ea) (sym eu) ∙ sym eh ∙ ef)
+        ∙ sym (ap (λ (x : Bool). emit (cond x (quoted "_") (nameDoc (firstBinder (exprAt p r) .name))) st) (sym eh ∙ ef)
         ∙ ap (λ (y : Binder). emit (nameDoc (y .name)) st) first-at)
 
     binder-is : isBinder (exprAt p r) ≡ true

@@ -10,3 +10,4 @@ pub mod RenameLaws
 pub mod ScopeLaws
 pub mod DropLaws
 pub mod GroupLaws
+pub mod SpineLaws

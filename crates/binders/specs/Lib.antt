@@ -9,4 +9,5 @@ pub mod Leaves
 pub mod Rename
 pub mod Scopes
 pub mod Steps
+pub mod Spines
 pub mod Asked

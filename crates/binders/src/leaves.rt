@@ -1,4 +1,5 @@
 // Expressions without parts: sorts, constants, literals.
+use basics::bools::either;
 use document::sink::Sink;
 use levels::levels::pp_sort;
 use names::literals::pp_const;
@@ -11,6 +12,7 @@ use pool::fields::sort_level;
 use pool::kinds::EXPR_CONST;
 use pool::kinds::EXPR_NAT;
 use pool::kinds::EXPR_SORT;
+use pool::kinds::EXPR_STRING;
 use pool::tables::Tables;
 ghost use mathlib.Core.Path.{_≡_};
 ghost use mathlib.Core.Bool.{true};
@@ -21,6 +23,13 @@ ghost use Rattle.pool.specs.Unfold.{exprAt};
 ghost use Rattle.document.specs.Sink.{Leaves, emit};
 ghost use Rattle.binders.specs.Asked.{Pooled};
 ghost use Rattle.binders.specs.Leaves.{leafKind, leafDoc};
+
+pub fn is_leaf(kind: usize) -> bool
+    ensures { λ v. ⌜ v ≡ leafKind kind ⌝ }
+{
+    let literal = either(kind == EXPR_NAT, kind == EXPR_STRING);
+    either(either(kind == EXPR_SORT, kind == EXPR_CONST), literal)
+}
 
 pub fn pp_leaf(
     bytes: &[u8],

@@ -4,5 +4,6 @@ pub mod group;
 pub mod leaves;
 pub mod printer;
 pub mod runs;
+pub mod spine;
 pub mod stack;
 pub mod vars;

@@ -18,12 +18,13 @@ use pool::kinds::EXPR_PI;
 use pool::kinds::STYLE_DEFAULT;
 use pool::tables::Tables;
 ghost use mathlib.Core.Path.{_≡_};
-ghost use mathlib.Core.Bool.{true, _&&_};
+ghost use mathlib.Core.Bool.{true, not, _&&_};
 ghost use Prim.Native.Nat.{_<_, _≤_};
 ghost use Rattle.pool.specs.Tables.{E, exprWord};
 ghost use Rattle.pool.specs.Areas.{lent, given};
 ghost use Rattle.pool.specs.Unfold.{exprAt};
 ghost use Rattle.document.specs.Sink.{Leaves, emit};
+ghost use Rattle.names.specs.Names.{isAnonymous};
 ghost use Rattle.binders.specs.Binders.{isArrow, binderName};
 ghost use Rattle.binders.specs.Asked.{Pooled, RunEnd, PartEnd};
 ghost use Rattle.binders.specs.Steps.{levelOf};
@@ -53,7 +54,10 @@ pub fn is_arrow(bytes: &[u8], names: &[u32], words: &[u32], t: Tables, r: usize)
         is_anonymous(bytes, names, words, t, name),
         has_macro_scopes(bytes, names, words, t, name),
     );
-    either(!is_used(bytes, names, words, t, r), named)
+    if named {
+        return true;
+    }
+    !is_used(bytes, names, words, t, r)
 }
 
 // Whether row r is a binder of a run: of pis that are no arrows, or of lambdas.
@@ -133,6 +137,19 @@ pub fn level_of(arrow: bool) -> usize
     0
 }
 
+// Whether a binder is anonymous and its variable does not occur: the occurrence of one that has a name is not searched.
+fn is_hidden(bytes: &[u8], names: &[u32], words: &[u32], t: Tables, r: usize) -> bool
+    requires { ⌜ (Pooled (now bytes) (now names) (now words) t) × (r < E (now words))
+        × (binderKind (exprWord (now words) r 0) ≡ true) ⌝ }
+    ensures { λ v. ⌜ v ≡ (isAnonymous (firstBinder (exprAt (lent bytes names words) r) .name)
+        && not (firstBinder (exprAt (lent bytes names words) r) .used)) ⌝ }
+{
+    if is_anonymous(bytes, names, words, t, binder_name(words, t, r)) {
+        return !is_used(bytes, names, words, t, r);
+    }
+    false
+}
+
 // A binder's name; "_" if it is anonymous and its variable does not occur. After a refusal nobody asks whether it does.
 pub fn pp_binder_name(
     bytes: &[u8],
@@ -152,11 +169,7 @@ pub fn pp_binder_name(
         return s;
     }
     let name = binder_name(words, t, r);
-    let hidden = both(
-        is_anonymous(bytes, names, words, t, name),
-        !is_used(bytes, names, words, t, r),
-    );
-    if hidden {
+    if is_hidden(bytes, names, words, t, r) {
         return put_word(rows, text, s, UNDERSCORE);
     }
     pp_name_safe(bytes, names, words, t, rows, text, s, name)

@@ -1,7 +1,6 @@
 // The names in force.
 ghost use mathlib.Core.Path.{_≡_};
-ghost use Prim.Native.Nat.{_<_};
-ghost use Rattle.binders.specs.Scopes.{Linked, push as pushed};
+ghost use Rattle.binders.specs.Scopes.{Linked};
 
 // A name of the stack: its row, and the scope that was in force before it. A scope is 0, or one more than the place of its last name.
 pub struct Entry {
@@ -24,21 +23,5 @@ impl Stack {
             entries: [none; 1024],
             count: 0,
         }
-    }
-
-    // One name more, in the scope `link`.
-    pub fn push(self, name: usize, link: usize) -> Stack
-        requires { ⌜ (self .count < 1024) × (name < 65536) × (link < 65536) ⌝ }
-        ensures { λ v. ⌜ v ≡ pushed self name link ⌝ }
-    {
-        let mut k = self;
-        let n = k.count;
-        let e = Entry {
-            name: name as u16,
-            link: link as u16,
-        };
-        k.entries[n] = e;
-        k.count = n + 1;
-        k
     }
 }

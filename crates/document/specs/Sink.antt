@@ -1,5 +1,5 @@
 -- What the sink's functions do to the row area, the text area and the sink.
-use Prim.Native.Nat.{ℕ, _+_, _-_, _*_, _%_, _^_}
+use Prim.Native.Nat.{ℕ, _+_, _-_, _*_, _%_, _^_, min}
 use mathlib.Core.Bool.{cond}
 use mathlib.Core.List.{List, [], _∷_, _++_}
 use lib.ListN.{length, take, drop, set, replicate}
@@ -74,6 +74,10 @@ putByte b (state rows text s) =
 unfoldable pub putBytes : List ℕ → State → State
 putBytes [] st = st
 putBytes (b ∷ bs) st = putBytes bs (putByte b st)
+
+-- how many bytes more a text area of so many bytes takes before one is refused
+abbrev pub roomOf : Sink → ℕ → ℕ
+roomOf s size = cond (eqb (s .stop) 0) (min size 65536 - s .text) 0
 
 -- the row of the text that consists of the bytes from `from` on
 unfoldable pub endText : ℕ → State → State

@@ -32,13 +32,39 @@ pub fn left_of(rows: &[u32], r: usize) -> usize
     less(right, word_at(rows, right, 3))
 }
 
-pub fn measures_at(rows: &[u32], r: usize) -> Measures
+// Each word by itself: the row may lie past the area, or partly.
+fn measures_by_word(rows: &[u32], r: usize) -> Measures
     ensures { λ v. ⌜ (v ≡ measuresAt (now (rows .entry)) r) × Small v ⌝ }
 {
     let count = word_at(rows, r, 3);
     let flat = word_at(rows, r, 4);
     let first = word_at(rows, r, 5);
     let has = word_at(rows, r, 6);
+    Measures {
+        count,
+        flat,
+        first,
+        has,
+    }
+}
+
+fn wide(x: u32) -> usize
+    ensures { λ v. ⌜ (v ≡ x) × (v < 4294967296) ⌝ }
+{
+    x as usize
+}
+
+pub fn measures_at(rows: &[u32], r: usize) -> Measures
+    ensures { λ v. ⌜ (v ≡ measuresAt (now (rows .entry)) r) × Small v ⌝ }
+{
+    if rows.len() / 7 <= r {
+        return measures_by_word(rows, r);
+    }
+    let at = r * 7;
+    let count = wide(rows[at + 3]);
+    let flat = wide(rows[at + 4]);
+    let first = wide(rows[at + 5]);
+    let has = wide(rows[at + 6]);
     Measures {
         count,
         flat,

@@ -2,14 +2,17 @@
 // printers need no branch after each call. Each function takes both areas, also where it uses one, so that all contracts have one shape.
 use crate::measures::Measures;
 use crate::measures::joined;
-use crate::measures::left_of;
 use crate::measures::measures_at;
 use crate::measures::wrapped;
 use basics::numbers::less;
+use basics::numbers::lesser;
 use basics::numbers::low;
 ghost use mathlib.Core.Path.{_≡_};
+ghost use Prim.Native.Nat.{_-_, _≤_};
+ghost use mathlib.Core.List.{[], _∷_};
 ghost use lib.ListN.{length, replicate};
-ghost use Rattle.document.specs.Sink.{Leaves, putRow, putByte, putBytes, endText, putText, putBreak, putJoin, putNest, putGroup, putWrapped, putNames};
+ghost use lib.Seq.{sets};
+ghost use Rattle.document.specs.Sink.{Leaves, putRow, putByte, putBytes, roomOf, endText, putText, putBreak, putJoin, putNest, putGroup, putWrapped, putNames};
 
 // The rows and text bytes written so far; the number that stopped the walk, or 0, and its place.
 pub struct Sink {
@@ -128,8 +131,8 @@ pub fn put_byte(rows: &mut [u32], text: &mut [u8], s: Sink, b: u8) -> Sink
     }
 }
 
-// Text bytes without their row: a text may be written in pieces, and `end_text` writes its row.
-pub fn put_bytes(rows: &mut [u32], text: &mut [u8], s: Sink, bytes: &[u8]) -> Sink
+// One byte after the other, up to the one that is refused.
+fn put_each(rows: &mut [u32], text: &mut [u8], s: Sink, bytes: &[u8]) -> Sink
     ensures { λ v. ⌜ Leaves rows text s v (putBytes (now (bytes .entry))) ⌝ }
 {
     let mut o = s;
@@ -139,6 +142,50 @@ pub fn put_bytes(rows: &mut [u32], text: &mut [u8], s: Sink, bytes: &[u8]) -> Si
         i += 1;
     }
     o
+}
+
+// How many bytes more a text area of so many bytes takes before one is refused.
+fn room(s: Sink, size: usize) -> usize
+    ensures { λ v. ⌜ v ≡ roomOf s size ⌝ }
+{
+    if s.stop != 0 {
+        return 0;
+    }
+    less(lesser(size, 65536), s.text)
+}
+
+// Stores bytes from a place on, without a test.
+fn store(text: &mut [u8], at: usize, bytes: &[u8])
+    requires { ⌜ length (now bytes) ≤ length (now text) - at ⌝ }
+    ensures { λ _. ⌜ now (text .exit) ≡ sets (now (text .entry)) at (now (bytes .entry)) ⌝ }
+{
+    let mut i = 0;
+    while i < bytes.len() {
+        text[at + i] = bytes[i];
+        i += 1;
+    }
+}
+
+// Text bytes without their row: a text may be written in pieces, and `end_text` writes its row.
+// One byte alone, the commonest text, needs no copy; and where all bytes have room, no byte is tested by itself.
+pub fn put_bytes(rows: &mut [u32], text: &mut [u8], s: Sink, bytes: &[u8]) -> Sink
+    ensures { λ v. ⌜ Leaves rows text s v (putBytes (now (bytes .entry))) ⌝ }
+{
+    let count = bytes.len();
+    if count == 1 {
+        return put_byte(rows, text, s, bytes[0]);
+    }
+    if room(s, text.len()) < count {
+        return put_each(rows, text, s, bytes);
+    }
+    let at = s.text;
+    store(text, at, bytes);
+    Sink {
+        rows: s.rows,
+        text: at + count,
+        stop: s.stop,
+        place: s.place,
+    }
 }
 
 // The row of the text whose bytes were written from `from` on.
@@ -163,6 +210,24 @@ pub fn put_text(rows: &mut [u32], text: &mut [u8], s: Sink, bytes: &[u8]) -> Sin
     end_text(rows, text, o, from)
 }
 
+// A text of a few bytes: here the loop of single bytes is shorter than the choice of a way.
+pub fn put_short(rows: &mut [u32], text: &mut [u8], s: Sink, bytes: &[u8]) -> Sink
+    ensures { λ v. ⌜ Leaves rows text s v (putText (now (bytes .entry))) ⌝ }
+{
+    let from = s.text;
+    let o = put_each(rows, text, s, bytes);
+    end_text(rows, text, o, from)
+}
+
+// A text of one byte.
+pub fn put_sign(rows: &mut [u32], text: &mut [u8], s: Sink, b: u8) -> Sink
+    ensures { λ v. ⌜ Leaves rows text s v (putText (b ∷ [])) ⌝ }
+{
+    let from = s.text;
+    let o = put_byte(rows, text, s, b);
+    end_text(rows, text, o, from)
+}
+
 pub fn put_break(rows: &mut [u32], text: &mut [u8], s: Sink, blank: u32) -> Sink
     ensures { λ v. ⌜ Leaves rows text s v (putBreak blank) ⌝ }
 {
@@ -179,9 +244,9 @@ pub fn put_break(rows: &mut [u32], text: &mut [u8], s: Sink, blank: u32) -> Sink
 pub fn put_join(rows: &mut [u32], text: &mut [u8], s: Sink) -> Sink
     ensures { λ v. ⌜ Leaves rows text s v putJoin ⌝ }
 {
-    let written = s.rows;
-    let left = measures_at(rows, left_of(rows, written));
-    let right = measures_at(rows, less(written, 1));
+    let last = less(s.rows, 1);
+    let right = measures_at(rows, last);
+    let left = measures_at(rows, less(last, right.count));
     let m = joined(left, right);
     put_row(rows, text, s, 1, 0, 0, m)
 }

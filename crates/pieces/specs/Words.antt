@@ -1,6 +1,7 @@
 -- 01's fixed words by number: the declarations' words by kind, opening and closing brackets by style, and the rest.
 use Prim.Native.Nat.{ℕ, zero, suc}
 use Prim.Native.String.{String}
+use mathlib.Core.Path.{_≡_}
 use mathlib.Core.List.{List, [], _∷_}
 use Rattle.utf8.specs.Quoted.{bytes}
 
@@ -23,3 +24,7 @@ wordAt n = wordIn words n
 
 abbrev pub wordBytes : ℕ → List ℕ
 wordBytes n = bytes (wordAt n)
+
+-- a number that is 0, or the only byte of the word w
+abbrev pub Sign : ℕ → ℕ → Type 0
+Sign w b = (b ≡ 0 → ⊥) → b ∷ [] ≡ wordBytes w

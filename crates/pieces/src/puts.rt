@@ -1,5 +1,6 @@
 // The constant pieces between the parts of a chain.
 use crate::digits::put_number;
+use crate::parens::close_paren;
 use crate::words::ARROW;
 use crate::words::ASSIGN;
 use crate::words::BLANK;
@@ -24,8 +25,10 @@ use document::sink::put_join;
 use document::sink::put_nest;
 ghost use mathlib.Core.Path.{_≡_};
 ghost use Prim.Native.Nat.{_<_, _≤_};
-ghost use Rattle.document.specs.Sink.{Leaves};
+ghost use Rattle.document.specs.Sink.{Leaves, putNest, putGroup};
 ghost use Rattle.pieces.specs.Docs.{closing};
+ghost use Rattle.pieces.specs.Parens.{closeIf};
+ghost use Rattle.pieces.specs.Tiles.{endTile};
 ghost use Rattle.pieces.specs.Puts.{putColon, putArrow, startRun, markRun, endRun, endGroup, openGroup, closeGroup};
 ghost use Rattle.pieces.specs.Puts.{endProj, startLet, putAssign, endLet};
 
@@ -125,6 +128,23 @@ pub fn close_group(
         return s;
     }
     end_tile(rows, text, s)
+}
+
+// After an argument of an application: it is grouped, and joined to the tile so far.
+pub fn end_argument(rows: &mut [u32], text: &mut [u8], s: Sink) -> Sink
+    ensures { λ v. ⌜ Leaves rows text s v (λ st. endTile (putGroup st)) ⌝ }
+{
+    let s = put_group(rows, text, s);
+    end_tile(rows, text, s)
+}
+
+// After the last one.
+pub fn end_app(rows: &mut [u32], text: &mut [u8], s: Sink, indent: u32, wrapped: bool) -> Sink
+    ensures { λ v. ⌜ Leaves rows text s v (λ st. closeIf wrapped (putNest indent (putGroup st))) ⌝ }
+{
+    let s = put_group(rows, text, s);
+    let s = put_nest(rows, text, s, indent);
+    close_paren(rows, text, s, wrapped)
 }
 
 // After the structure of a projection; fields are counted from 1.

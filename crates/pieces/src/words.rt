@@ -3,11 +3,12 @@ use document::sink::Sink;
 use document::sink::put_break;
 use document::sink::put_group;
 use document::sink::put_join;
-use document::sink::put_text;
+use document::sink::put_short;
+use document::sink::put_sign;
 ghost use mathlib.Core.Path.{_≡_};
 ghost use Prim.Native.Nat.{_<_};
 ghost use Rattle.document.specs.Sink.{Leaves, putText, putBreak, putJoin};
-ghost use Rattle.pieces.specs.Words.{wordBytes};
+ghost use Rattle.pieces.specs.Words.{wordBytes, Sign};
 ghost use Rattle.pieces.specs.Tiles.{endTile};
 
 // The word of a declaration of kind k is number k; the brackets of a binder of style k are OPEN + k and CLOSE + k.
@@ -70,8 +71,8 @@ pub const EMPTY: usize = 41;
 const WORDS: [u8; 128] = *b"axiomQuotient primitivetheoremdefopaqueinductiveconstructorrecursor\
     ({{{[)}}}]forallfunletTypeSortmaximax@ ::=\xe2\x86\x92,=>;.{}+\"_\xc2\xab\xc2\xbb()";
 
-// Where each word starts; the last one's end.
-const STARTS: [usize; 43] = [
+// Where each word starts; the last one's end. In bytes, since a function that reads a table makes it on its stack at each call.
+const STARTS: [u8; 43] = [
     0,
     5,
     23,
@@ -117,13 +118,54 @@ const STARTS: [usize; 43] = [
     128,
 ];
 
+// The byte of a word that has one, the brackets' (8 to 15) first; 0 for the others. It is what the table has: over three quarters of the
+// words in recorded prints are such signs, and a function that reads the table makes it on its stack.
+fn sign_of(w: usize) -> u8
+    ensures { λ v. ⌜ Sign w v ⌝ }
+{
+    match w {
+        8 => b'(',
+        9 => b'{',
+        11 => b'[',
+        12 => b')',
+        13 => b'}',
+        15 => b']',
+        AT => b'@',
+        BLANK => b' ',
+        COLON => b':',
+        COMMA => b',',
+        SEMICOLON => b';',
+        DOT => b'.',
+        OPEN_BRACE => b'{',
+        CLOSE_BRACE => b'}',
+        PLUS => b'+',
+        QUOTE => b'"',
+        UNDERSCORE => b'_',
+        OPEN_PAREN => b'(',
+        CLOSE_PAREN => b')',
+        _ => 0,
+    }
+}
+
+fn put_from_table(rows: &mut [u32], text: &mut [u8], s: Sink, w: usize) -> Sink
+    requires { ⌜ w < 42 ⌝ }
+    ensures { λ v. ⌜ Leaves rows text s v (putText (wordBytes w)) ⌝ }
+{
+    let starts = STARTS;
+    let from = starts[w] as usize;
+    let to = starts[w + 1] as usize;
+    put_short(rows, text, s, &WORDS[from..to])
+}
+
 pub fn put_word(rows: &mut [u32], text: &mut [u8], s: Sink, w: usize) -> Sink
     requires { ⌜ w < 42 ⌝ }
     ensures { λ v. ⌜ Leaves rows text s v (putText (wordBytes w)) ⌝ }
 {
-    let from = STARTS[w];
-    let to = STARTS[w + 1];
-    put_text(rows, text, s, &WORDS[from..to])
+    let b = sign_of(w);
+    if b != 0 {
+        return put_sign(rows, text, s, b);
+    }
+    put_from_table(rows, text, s, w)
 }
 
 // A word, joined to the subtree before it.

@@ -12,7 +12,8 @@ use Rattle.pool_check.specs.declared.Verdict.the-variants.{Accepted, Wor
 use Rattle.pool.specs.Tables.{Pool, pool, S, N, L, K, Q, E, D, total}
 use Rattle.pool.specs.Rules.{stringOk, nameOk, levelOk, listOk, listEntryOk, exprOk, declarOk}
 use Rattle.pool.specs.Sound.{Sound}
-use Rattle.pool_check.specs.Check.{firstBad, inTable, refusal, wordsOk, limitsOk, rowsVerdict, verdict}
+use Rattle.byte_check.specs.Scan.{firstBad}
+use Rattle.pool_check.specs.Check.{inTable, refusal, wordsOk, limitsOk, rowsVerdict, verdict}
 use Rattle.basics.proofs.Booleans.{and-left, and-right}
 
 -- the words are as many as the head says, and the counts and the byte area are within their limits

@@ -6,11 +6,10 @@ use mathlib.Core.Path.{_≡_, refl, sym, ap, _∙_}
 use lib.Dec.{ltb, eqb}
 use borrow.Author.Tests.{lt-ltb, le-ltb, le-leb, lt-leb}
 use Rattle.pool_check.specs.declared.exprs.Fields.{Fields}
-use Rattle.pool.specs.Tables.{Pool, exprWord}
+use Rattle.pool.specs.Tables.{exprWord}
 use Rattle.pool.specs.Kinds.{nameKind, noNameᵏ, levelKind, noLevelᵏ, exprKind, noExprᵏ}
 use Rattle.pool.specs.Unfold.{hasValue}
-use Rattle.pool.specs.Rules.{depthBy, looseBy}
-use Rattle.pool.specs.Depths.{nameDepthBy, levelDepthBy}
+use Rattle.pool.specs.Depths.{levelDepthBy}
 use Rattle.pool_check.specs.Fields.{fieldsOf}
 
 pub name-none : (k : ℕ) → (k ≡ 0 → ⊥) → (k ≡ 1 → ⊥) → (k ≡ 2 → ⊥) → nameKind k ≡ noNameᵏ
@@ -19,13 +18,6 @@ name-none zero a b c = absurd (a refl)
 name-none (suc zero) a b c = absurd (b refl)
 name-none (suc (suc zero)) a b c = absurd (c refl)
 name-none (suc (suc (suc k))) a b c = refl
-
-pub name-leaf : (ns ds : List ℕ) (r k : ℕ) → (k ≡ 1 → ⊥) → (k ≡ 2 → ⊥) → 1 ≡ nameDepthBy ns ds r (nameKind k)
-unfolding nameKind nameDepthBy
-name-leaf ns ds r zero a b = refl
-name-leaf ns ds r (suc zero) a b = absurd (a refl)
-name-leaf ns ds r (suc (suc zero)) a b = absurd (b refl)
-name-leaf ns ds r (suc (suc (suc k))) a b = refl
 
 pub level-none : (k : ℕ) → (k ≡ 0 → ⊥) → (k ≡ 1 → ⊥) → (k ≡ 2 → ⊥) → (k ≡ 3 → ⊥) → (k ≡ 4 → ⊥) → levelKind k ≡ noLevelᵏ
 unfolding levelKind
@@ -64,35 +56,6 @@ expr-none (suc (suc (suc (suc (suc (suc (suc zero))))))) a b c d e f g h i j = a
 expr-none (suc (suc (suc (suc (suc (suc (suc (suc zero)))))))) a b c d e f g h i j = absurd (i refl)
 expr-none (suc (suc (suc (suc (suc (suc (suc (suc (suc zero))))))))) a b c d e f g h i j = absurd (j refl)
 expr-none (suc (suc (suc (suc (suc (suc (suc (suc (suc (suc k)))))))))) a b c d e f g h i j = refl
-
-pub depth-leaf : (p : Pool) (r k : ℕ) → (k ≡ 3 → ⊥) → (k ≡ 4 → ⊥) → (k ≡ 5 → ⊥) → (k ≡ 6 → ⊥) → (k ≡ 7 → ⊥) → 1 ≡ depthBy p r (exprKind k)
-unfolding exprKind depthBy
-depth-leaf p r zero a b c d e = refl
-depth-leaf p r (suc zero) a b c d e = refl
-depth-leaf p r (suc (suc zero)) a b c d e = refl
-depth-leaf p r (suc (suc (suc zero))) a b c d e = absurd (a refl)
-depth-leaf p r (suc (suc (suc (suc zero)))) a b c d e = absurd (b refl)
-depth-leaf p r (suc (suc (suc (suc (suc zero))))) a b c d e = absurd (c refl)
-depth-leaf p r (suc (suc (suc (suc (suc (suc zero)))))) a b c d e = absurd (d refl)
-depth-leaf p r (suc (suc (suc (suc (suc (suc (suc zero))))))) a b c d e = absurd (e refl)
-depth-leaf p r (suc (suc (suc (suc (suc (suc (suc (suc zero)))))))) a b c d e = refl
-depth-leaf p r (suc (suc (suc (suc (suc (suc (suc (suc (suc zero))))))))) a b c d e = refl
-depth-leaf p r (suc (suc (suc (suc (suc (suc (suc (suc (suc (suc k)))))))))) a b c d e = refl
-
-pub loose-leaf : (p : Pool) (r k : ℕ) → (k ≡ 0 → ⊥) → (k ≡ 3 → ⊥) → (k ≡ 4 → ⊥) → (k ≡ 5 → ⊥) → (k ≡ 6 → ⊥) → (k ≡ 7 → ⊥) → 0 ≡ looseBy p r
-    (exprKind k)
-unfolding exprKind looseBy
-loose-leaf p r zero z a b c d e = absurd (z refl)
-loose-leaf p r (suc zero) z a b c d e = refl
-loose-leaf p r (suc (suc zero)) z a b c d e = refl
-loose-leaf p r (suc (suc (suc zero))) z a b c d e = absurd (a refl)
-loose-leaf p r (suc (suc (suc (suc zero)))) z a b c d e = absurd (b refl)
-loose-leaf p r (suc (suc (suc (suc (suc zero))))) z a b c d e = absurd (c refl)
-loose-leaf p r (suc (suc (suc (suc (suc (suc zero)))))) z a b c d e = absurd (d refl)
-loose-leaf p r (suc (suc (suc (suc (suc (suc (suc zero))))))) z a b c d e = absurd (e refl)
-loose-leaf p r (suc (suc (suc (suc (suc (suc (suc (suc zero)))))))) z a b c d e = refl
-loose-leaf p r (suc (suc (suc (suc (suc (suc (suc (suc (suc zero))))))))) z a b c d e = refl
-loose-leaf p r (suc (suc (suc (suc (suc (suc (suc (suc (suc (suc k)))))))))) z a b c d e = refl
 
 -- a declaration's value
 module _ (k value exprs : ℕ) where

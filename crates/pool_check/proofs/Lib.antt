@@ -3,5 +3,4 @@ pub mod Decide
 pub mod Verdicts
 pub mod Acceptance
 pub mod NumberLaws
-pub mod RunLaws
-pub mod NaturalLaws
+pub mod MarkLaws

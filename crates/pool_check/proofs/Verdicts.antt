@@ -10,7 +10,8 @@ use Rattle.pool.specs.declared.tables.Tables.{Tables}
 use Rattle.pool_check.specs.declared.Verdict.{Verdict}
 use Rattle.pool_check.specs.declared.Verdict.the-variants.{Words, Limit}
 use Rattle.pool.specs.Tables.{pool, total}
-use Rattle.pool_check.specs.Check.{firstBad, inTable, wordsOk, limitsOk, rowsVerdict, verdict}
+use Rattle.byte_check.specs.Scan.{firstBad}
+use Rattle.pool_check.specs.Check.{inTable, wordsOk, limitsOk, rowsVerdict, verdict}
 use Rattle.pool.specs.Areas.{TablesOf}
 use Rattle.pool_check.specs.Stages.{limits}
 

@@ -1,5 +1,5 @@
 -- 01, From the input: "Check order as listed; tables in order, rows rising." Numbers 1 to 4.
-use Prim.Native.Nat.{ℕ, zero, suc}
+use Prim.Native.Nat.{ℕ}
 use mathlib.Core.Bool.{Bool, _&&_, cond}
 use mathlib.Core.List.{List}
 use lib.Dec.{ltb, leb, eqb}
@@ -8,6 +8,7 @@ use Rattle.pool_check.specs.declared.Verdict.{Verdict}
 use Rattle.pool_check.specs.declared.Verdict.the-variants.{Accepted, Words, Limit, Strings, Rows}
 use Rattle.pool.specs.Tables.{Pool, pool, S, N, L, K, Q, E, D, total}
 use Rattle.pool.specs.Rules.{stringOk, nameOk, levelOk, listOk, listEntryOk, exprOk, declarOk}
+use Rattle.byte_check.specs.Scan.{firstBad}
 
 -- 01's number of each case, 0 for none
 unfoldable pub number : Verdict → ℕ
@@ -43,11 +44,6 @@ limitsOk bs ws =
     && (countOk (N ws)
     && (countOk (L ws)
     && (countOk (K ws) && (countOk (Q ws) && (countOk (E ws) && (countOk (D ws) && leb (length bs) 16777216))))))
-
--- the first of `left` rows from r on that is not ok, or the row after them
-unfoldable pub firstBad : (ℕ → Bool) → ℕ → ℕ → ℕ
-firstBad ok zero r = r
-firstBad ok (suc left) r = cond (ok r) (firstBad ok left (suc r)) r
 
 -- a table of so many rows: what is refused at its first bad row, or what comes after the table
 abbrev pub inTable : (ℕ → Bool) → ℕ → (ℕ → Verdict) → Verdict → Verdict

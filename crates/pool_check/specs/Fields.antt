@@ -1,8 +1,14 @@
 -- The words of an expression row, as the code reads them.
 use Prim.Native.Nat.{ℕ}
+use mathlib.Core.Bool.{Bool}
 use mathlib.Core.List.{List}
-use Rattle.pool.specs.Tables.{exprWord}
+use Rattle.pool.specs.Tables.{Pool, exprWord}
+use Rattle.pool.specs.Kinds.{ExprKind, NameKind}
+use Rattle.pool.specs.Rules.{exprFieldsOk, depthBy, looseBy, nameFieldsOk}
+use Rattle.pool.specs.Depths.{nameDepthBy}
 use Rattle.pool_check.specs.declared.exprs.Fields.{Fields}
+use Rattle.pool_check.specs.declared.exprs.Asked.{Asked}
+use Rattle.pool_check.specs.declared.names.AskedName.{AskedName}
 
 abbrev pub fieldsOf : List ℕ → ℕ → Fields
 fieldsOf ws r =
@@ -16,3 +22,16 @@ fieldsOf ws r =
       depth = exprWord ws r 6;
       loose = exprWord ws r 7;
     }
+
+-- what is asked of a row, by the rules
+abbrev pub asked : Bool → ℕ → ℕ → Asked
+asked right depth loose = record { right = right; depth = depth; loose = loose }
+
+abbrev pub askedBy : Pool → ℕ → ExprKind → Asked
+askedBy p r k = asked (exprFieldsOk p r k) (depthBy p r k) (looseBy p r k)
+
+abbrev pub askedName : Bool → ℕ → AskedName
+askedName right depth = record { right = right; depth = depth }
+
+abbrev pub askedNameBy : List ℕ → List ℕ → ℕ → NameKind → AskedName
+askedNameBy ns depths r k = askedName (nameFieldsOk ns r k) (nameDepthBy ns depths r k)

@@ -3,4 +3,4 @@ pub mod Check
 -- what the contracts and the proofs speak of
 pub mod Fields
 pub mod Stages
-pub mod Runs
+pub mod Marks

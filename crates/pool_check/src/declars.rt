@@ -17,7 +17,7 @@ ghost use lib.Dec.{ltb, eqb};
 ghost use Rattle.pool.specs.Tables.{D};
 ghost use Rattle.pool.specs.Unfold.{hasValue};
 ghost use Rattle.pool.specs.Rules.{declarOk};
-ghost use Rattle.pool_check.specs.Check.{firstBad};
+ghost use Rattle.byte_check.specs.Scan.{firstBad};
 ghost use Rattle.pool.specs.Areas.{TablesOf, over};
 
 // "value is used by 2 to 4 only"

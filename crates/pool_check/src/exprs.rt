@@ -1,6 +1,4 @@
 // The expressions: kind, five fields, depth, loose.
-use crate::naturals::has_natural;
-use crate::naturals::mark_naturals;
 use crate::num::byte_at;
 use crate::num::unused1;
 use crate::num::unused2;
@@ -9,6 +7,7 @@ use crate::num::unused4;
 use basics::bools::both;
 use basics::numbers::larger;
 use basics::numbers::less;
+use byte_check::naturals::mark_naturals;
 use pool::fields;
 use pool::kinds::EXPR_APP;
 use pool::kinds::EXPR_CONST;
@@ -24,16 +23,17 @@ use pool::tables::Tables;
 use pool::tables::expr_word;
 ghost use mathlib.Core.Path.{_≡_};
 ghost use Prim.Native.Nat.{ℕ, _+_, _-_, _<_, _≤_, max};
-ghost use mathlib.Core.Bool.{_&&_};
+ghost use mathlib.Core.Bool.{true, _&&_};
 ghost use mathlib.Core.List.{List, _∷_, []};
 ghost use lib.Dec.{ltb, leb};
 ghost use lib.ListN.{length};
-ghost use Rattle.pool.specs.Tables.{Pool, S, E, exprWord, stringAt};
-ghost use Rattle.pool.specs.Kinds.{exprKind};
-ghost use Rattle.pool.specs.Rules.{unused, natural, exprFieldsOk, depthBy, looseBy, exprOk};
-ghost use Rattle.pool_check.specs.Fields.{fieldsOf};
-ghost use Rattle.pool_check.specs.Runs.{Marked, MarkedFor};
-ghost use Rattle.pool_check.specs.Check.{firstBad};
+ghost use Rattle.pool.specs.Tables.{Pool, S, N, E, exprWord, stringAt};
+ghost use Rattle.pool.specs.Kinds.{exprKind, appᵏ, piᵏ, lamᵏ, letᵏ, projᵏ};
+ghost use Rattle.pool.specs.Rules.{unused, natural, exprOk};
+ghost use Rattle.pool_check.specs.Fields.{fieldsOf, asked, askedBy};
+ghost use Rattle.byte_check.specs.Runs.{Marked};
+ghost use Rattle.pool_check.specs.Marks.{MarkedFor, Scanned};
+ghost use Rattle.byte_check.specs.Scan.{firstBad};
 ghost use Rattle.pool.specs.Areas.{TablesOf, WordsOf, over, lent};
 
 // The words of a row.
@@ -48,9 +48,16 @@ pub struct Fields {
     pub loose: usize,
 }
 
+// What a row's kind asks: whether its fields are right, and what its depth and loose words have to be, from those of lower rows.
+pub struct Asked {
+    pub right: bool,
+    pub depth: usize,
+    pub loose: usize,
+}
+
 pub fn fields_at(words: &[u32], t: Tables, r: usize) -> Fields
     requires { ⌜ WordsOf (now words) t ⌝ }
-    ensures { λ f. ⌜ f ≡ fieldsOf (now (words .entry)) r ⌝ }
+    ensures { λ f. ⌜ (f ≡ fieldsOf (now (words .entry)) r) × (f .a < 4294967296) ⌝ }
 {
     let kind = fields::expr_kind(words, t, r);
     let a = expr_word(words, t, r, 1);
@@ -76,6 +83,13 @@ fn var_ok(f: Fields) -> bool
     ensures { λ v. ⌜ v ≡ leb (f .a) 4095 && unused (f .b ∷ f .c ∷ f .d ∷ f .e ∷ []) ⌝ }
 {
     both(f.a <= 4095, unused4(f.b, f.c, f.d, f.e))
+}
+
+fn ask_var(f: Fields) -> Asked
+    requires { ⌜ f .a < 4294967296 ⌝ }
+    ensures { λ v. ⌜ v ≡ asked (leb (f .a) 4095 && unused (f .b ∷ f .c ∷ f .d ∷ f .e ∷ [])) 1 (1 + f .a) ⌝ }
+{
+    leaf(var_ok(f), 1 + f.a)
 }
 
 // A sort's level, a string literal's string: one reference below `count`.
@@ -130,29 +144,6 @@ fn nat_ok(strings: usize, marks: &[u8], f: Fields) -> bool
     )
 }
 
-// What each kind asks of its fields.
-fn expr_fields_ok(names: &[u32], words: &[u32], marks: &[u8], t: Tables, r: usize) -> bool
-    requires { ⌜ TablesOf (now names) (now words) t ⌝ }
-    ensures { λ v. ⌜ ((bs : List ℕ) → MarkedFor (over bs (now (names .entry)) (now (words .entry))) (now (marks .entry)) r
-        → v ≡ exprFieldsOk (over bs (now (names .entry)) (now (words .entry))) r (exprKind (exprWord (now (words .entry)) r 0))) ⌝ }
-{
-    let f = fields_at(words, t, r);
-    let kind = f.kind;
-    match kind {
-        EXPR_VAR => var_ok(f),
-        EXPR_SORT => leaf_ok(t.levels, f),
-        EXPR_CONST => pair_ok(t.names, t.lists, f),
-        EXPR_APP => pair_ok(r, r, f),
-        EXPR_PI => binder_ok(t.names, r, f),
-        EXPR_LAMBDA => binder_ok(t.names, r, f),
-        EXPR_LET => let_ok(t.names, r, f),
-        EXPR_PROJ => proj_ok(t.names, r, f),
-        EXPR_NAT => nat_ok(t.strings, marks, f),
-        EXPR_STRING => leaf_ok(t.strings, f),
-        _ => false,
-    }
-}
-
 // One more than the deeper of two rows.
 fn over_two(words: &[u32], t: Tables, a: usize, b: usize) -> usize
     requires { ⌜ WordsOf (now words) t ⌝ }
@@ -178,24 +169,6 @@ fn over_three(words: &[u32], t: Tables, a: usize, b: usize, c: usize) -> usize
                 fields::expr_depth(words, t, c),
             ),
         )
-}
-
-// What the depth word has to be, from those of lower rows.
-fn depth_by(words: &[u32], t: Tables, r: usize) -> usize
-    requires { ⌜ WordsOf (now words) t ⌝ }
-    ensures { λ v. ⌜ ((bs ns : List ℕ) → v ≡ depthBy (over bs ns (now (words .entry))) r
-        (exprKind (exprWord (now (words .entry)) r 0))) ⌝ }
-{
-    let f = fields_at(words, t, r);
-    let kind = f.kind;
-    match kind {
-        EXPR_APP => over_two(words, t, f.a, f.b),
-        EXPR_PI => over_two(words, t, f.c, f.d),
-        EXPR_LAMBDA => over_two(words, t, f.c, f.d),
-        EXPR_LET => over_three(words, t, f.b, f.c, f.d),
-        EXPR_PROJ => 1 + fields::expr_depth(words, t, f.c),
-        _ => 1,
-    }
 }
 
 // The loose word of a binder: its body counts one less.
@@ -230,22 +203,94 @@ fn loose_of_let(words: &[u32], t: Tables, f: Fields) -> usize
     )
 }
 
-// What the loose word has to be, from those of lower rows.
-fn loose_by(words: &[u32], t: Tables, r: usize) -> usize
-    requires { ⌜ WordsOf (now words) t ⌝ }
-    ensures { λ v. ⌜ ((bs ns : List ℕ) → v ≡ looseBy (over bs ns (now (words .entry))) r
-        (exprKind (exprWord (now (words .entry)) r 0))) ⌝ }
+// A row with no row below it.
+fn leaf(right: bool, loose: usize) -> Asked
+    ensures { λ v. ⌜ v ≡ asked right 1 loose ⌝ }
 {
-    let f = fields_at(words, t, r);
+    Asked {
+        right: right,
+        depth: 1,
+        loose: loose,
+    }
+}
+
+fn ask_app(words: &[u32], t: Tables, r: usize, f: Fields) -> Asked
+    requires { ⌜ (WordsOf (now words) t) × (f ≡ fieldsOf (now words) r) ⌝ }
+    ensures { λ v. ⌜ ((bs ns : List ℕ) → v ≡ askedBy (over bs ns (now (words .entry))) r appᵏ) ⌝ }
+{
+    let right = pair_ok(r, r, f);
+    let depth = over_two(words, t, f.a, f.b);
+    let loose = loose_of_app(words, t, f.a, f.b);
+    Asked {
+        right: right,
+        depth: depth,
+        loose: loose,
+    }
+}
+
+// A pi or a lambda: the same is asked of both.
+fn ask_binder(words: &[u32], t: Tables, names: usize, r: usize, f: Fields) -> Asked
+    requires { ⌜ (WordsOf (now words) t) × (f ≡ fieldsOf (now words) r) ⌝ }
+    ensures { λ v. ⌜ ((bs ns : List ℕ) → names ≡ N ns → (v ≡ askedBy (over bs ns (now (words .entry))) r piᵏ)
+        × (v ≡ askedBy (over bs ns (now (words .entry))) r lamᵏ)) ⌝ }
+{
+    let right = binder_ok(names, r, f);
+    let depth = over_two(words, t, f.c, f.d);
+    let loose = under_binder(words, t, f.c, f.d);
+    Asked {
+        right: right,
+        depth: depth,
+        loose: loose,
+    }
+}
+
+fn ask_let(words: &[u32], t: Tables, names: usize, r: usize, f: Fields) -> Asked
+    requires { ⌜ (WordsOf (now words) t) × (f ≡ fieldsOf (now words) r) ⌝ }
+    ensures { λ v. ⌜ ((bs ns : List ℕ) → names ≡ N ns → v ≡ askedBy (over bs ns (now (words .entry))) r letᵏ) ⌝ }
+{
+    let right = let_ok(names, r, f);
+    let depth = over_three(words, t, f.b, f.c, f.d);
+    let loose = loose_of_let(words, t, f);
+    Asked {
+        right: right,
+        depth: depth,
+        loose: loose,
+    }
+}
+
+fn ask_proj(words: &[u32], t: Tables, names: usize, r: usize, f: Fields) -> Asked
+    requires { ⌜ (WordsOf (now words) t) × (f ≡ fieldsOf (now words) r) ⌝ }
+    ensures { λ v. ⌜ ((bs ns : List ℕ) → names ≡ N ns → v ≡ askedBy (over bs ns (now (words .entry))) r projᵏ) ⌝ }
+{
+    let right = proj_ok(names, r, f);
+    let depth = 1 + fields::expr_depth(words, t, f.c);
+    let loose = fields::expr_loose(words, t, f.c);
+    Asked {
+        right: right,
+        depth: depth,
+        loose: loose,
+    }
+}
+
+// What each kind asks: one choice, since a choice that is not foreseen costs as much as all of a row's tests.
+fn ask(names: &[u32], words: &[u32], marks: &[u8], t: Tables, r: usize, f: Fields) -> Asked
+    requires { ⌜ (TablesOf (now names) (now words) t) × (f ≡ fieldsOf (now words) r) × (f .a < 4294967296) ⌝ }
+    ensures { λ v. ⌜ ((bs : List ℕ) → MarkedFor (over bs (now (names .entry)) (now (words .entry))) (now (marks .entry)) r
+        → v ≡ askedBy (over bs (now (names .entry)) (now (words .entry))) r (exprKind (exprWord (now (words .entry)) r 0))) ⌝ }
+{
     let kind = f.kind;
     match kind {
-        EXPR_VAR => 1 + fields::var_index(words, t, r),
-        EXPR_APP => loose_of_app(words, t, f.a, f.b),
-        EXPR_PI => under_binder(words, t, f.c, f.d),
-        EXPR_LAMBDA => under_binder(words, t, f.c, f.d),
-        EXPR_LET => loose_of_let(words, t, f),
-        EXPR_PROJ => fields::expr_loose(words, t, f.c),
-        _ => 0,
+        EXPR_VAR => ask_var(f),
+        EXPR_SORT => leaf(leaf_ok(t.levels, f), 0),
+        EXPR_CONST => leaf(pair_ok(t.names, t.lists, f), 0),
+        EXPR_APP => ask_app(words, t, r, f),
+        EXPR_PI => ask_binder(words, t, t.names, r, f),
+        EXPR_LAMBDA => ask_binder(words, t, t.names, r, f),
+        EXPR_LET => ask_let(words, t, t.names, r, f),
+        EXPR_PROJ => ask_proj(words, t, t.names, r, f),
+        EXPR_NAT => leaf(nat_ok(t.strings, marks, f), 0),
+        EXPR_STRING => leaf(leaf_ok(t.strings, f), 0),
+        _ => leaf(false, 0),
     }
 }
 
@@ -254,23 +299,33 @@ fn expr_ok(names: &[u32], words: &[u32], marks: &[u8], t: Tables, r: usize) -> b
     ensures { λ v. ⌜ ((bs : List ℕ) → MarkedFor (over bs (now (names .entry)) (now (words .entry))) (now (marks .entry)) r
         → v ≡ exprOk (over bs (now (names .entry)) (now (words .entry))) r) ⌝ }
 {
-    let fields_ok = expr_fields_ok(names, words, marks, t, r);
-    let depth = fields::expr_depth(words, t, r);
-    let loose = fields::expr_loose(words, t, r);
-    let right = both(depth <= 256, loose == loose_by(words, t, r));
-    both(fields_ok, both(depth == depth_by(words, t, r), right))
+    let f = fields_at(words, t, r);
+    let want = ask(names, words, marks, t, r, f);
+    let last = both(f.depth <= 256, f.loose == want.loose);
+    both(want.right, both(f.depth == want.depth, last))
 }
 
-// The first expression row that breaks a rule, or their count, where the strings that are naturals are marked.
-fn scan_exprs(names: &[u32], words: &[u32], marks: &[u8], t: Tables) -> usize
+// The first expression row from `from` on that breaks a rule, or their count, where the strings that are naturals are marked. Where they
+// are not, it stops at the first natural too.
+fn scan_exprs(
+    names: &[u32],
+    words: &[u32],
+    marks: &[u8],
+    marked: bool,
+    t: Tables,
+    from: usize,
+) -> usize
     requires { ⌜ TablesOf (now names) (now words) t ⌝ }
     ensures { λ v. ⌜ ((bs : List ℕ)
-        → ((i : ℕ) → i < E (now (words .entry)) → MarkedFor (over bs (now (names .entry)) (now (words .entry))) (now (marks .entry)) i)
-        → v ≡ firstBad (exprOk (over bs (now (names .entry)) (now (words .entry)))) (E (now (words .entry))) 0) ⌝ }
+        → (marked ≡ true → Marked (over bs (now (names .entry)) (now (words .entry))) (now (marks .entry)))
+        → Scanned (over bs (now (names .entry)) (now (words .entry))) (t .exprs) from marked v) ⌝ }
 {
     let count = t.exprs;
-    let mut r: usize = 0;
+    let mut r = from;
     while r < count {
+        if both(!marked, fields::expr_kind(words, t, r) == EXPR_NAT) {
+            return r;
+        }
         if !expr_ok(names, words, marks, t, r) {
             return r;
         }
@@ -280,32 +335,40 @@ fn scan_exprs(names: &[u32], words: &[u32], marks: &[u8], t: Tables) -> usize
 }
 
 // The same: marks them first.
-fn scan_marked(bytes: &[u8], names: &[u32], words: &[u32], marks: &mut [u8], t: Tables) -> usize
+fn scan_marked(
+    bytes: &[u8],
+    names: &[u32],
+    words: &[u32],
+    marks: &mut [u8],
+    t: Tables,
+    from: usize,
+) -> usize
     requires { ⌜ (TablesOf (now names) (now words) t) × (S (now names) ≤ length (now marks)) ⌝ }
-    ensures { λ v. ⌜ v ≡ firstBad (exprOk (lent bytes names words)) (E (now (words .entry))) 0 ⌝ }
+    ensures { λ v. ⌜ v ≡ firstBad (exprOk (lent bytes names words)) (t .exprs - from) from ⌝ }
 {
     mark_naturals(bytes, names, t, marks);
-    scan_exprs(names, words, marks, t)
+    scan_exprs(names, words, marks, true, t, from)
 }
 
-// The first expression row that breaks a rule, or their count. Strings are marked only if a natural is there, in a table that is no longer
+// The first expression row that breaks a rule, or their count. Strings are marked only once a natural is met, in a table that is no longer
 // than need be, since all of it is cleared.
 pub(crate) fn first_bad_expr(bytes: &[u8], names: &[u32], words: &[u32], t: Tables) -> usize
     requires { ⌜ (TablesOf (now names) (now words) t) × (S (now names) ≤ 65536) ⌝ }
     ensures { λ v. ⌜ v ≡ firstBad (exprOk (lent bytes names words)) (E (now (words .entry))) 0 ⌝ }
 {
-    if !has_natural(words, t) {
-        let marks = [0u8; 1];
-        return scan_exprs(names, words, &marks, t);
+    let none = [0u8; 1];
+    let first = scan_exprs(names, words, &none, false, t, 0);
+    if fields::expr_kind(words, t, first) != EXPR_NAT {
+        return first;
     }
     if t.strings <= 64 {
         let mut marks = [0u8; 64];
-        return scan_marked(bytes, names, words, &mut marks, t);
+        return scan_marked(bytes, names, words, &mut marks, t, first);
     }
     if t.strings <= 4096 {
         let mut marks = [0u8; 4096];
-        return scan_marked(bytes, names, words, &mut marks, t);
+        return scan_marked(bytes, names, words, &mut marks, t, first);
     }
     let mut marks = [0u8; 65536];
-    scan_marked(bytes, names, words, &mut marks, t)
+    scan_marked(bytes, names, words, &mut marks, t, first)
 }

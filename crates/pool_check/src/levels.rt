@@ -19,7 +19,7 @@ ghost use Rattle.pool.specs.Tables.{L, levelWord};
 ghost use Rattle.pool.specs.Kinds.{levelKind};
 ghost use Rattle.pool.specs.Rules.{levelFieldsOk, levelOk};
 ghost use Rattle.pool.specs.Depths.{levelDepthBy};
-ghost use Rattle.pool_check.specs.Check.{firstBad};
+ghost use Rattle.byte_check.specs.Scan.{firstBad};
 ghost use Rattle.pool.specs.Areas.{TablesOf, WordsOf, over};
 
 fn level_fields_ok(names: &[u32], words: &[u32], t: Tables, r: usize) -> bool

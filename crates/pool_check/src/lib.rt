@@ -4,11 +4,10 @@ mod exprs;
 mod levels;
 mod lists;
 mod names;
-mod naturals;
 mod num;
-mod strings;
 
 use basics::bools::both;
+use byte_check::strings::first_bad_string;
 use pool::tables::Tables;
 use pool::tables::tables_of;
 ghost use mathlib.Core.Path.{_≡_};
@@ -80,7 +79,7 @@ fn check_rows(bytes: &[u8], names: &[u32], words: &[u32], t: Tables) -> Verdict
     requires { ⌜ (TablesOf (now names) (now words) t) × (Small t) ⌝ }
     ensures { λ v. ⌜ v ≡ rowsVerdict (lent bytes names words) ⌝ }
 {
-    let string = strings::first_bad_string(bytes, names, t);
+    let string = first_bad_string(bytes, names, t);
     if string < t.strings {
         return Verdict::Strings { row: string };
     }

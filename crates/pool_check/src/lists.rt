@@ -9,7 +9,7 @@ ghost use Prim.Native.Nat.{ℕ};
 ghost use mathlib.Core.List.{List};
 ghost use Rattle.pool.specs.Tables.{K, Q, listWord};
 ghost use Rattle.pool.specs.Rules.{rising, listOk, listEntryOk};
-ghost use Rattle.pool_check.specs.Check.{firstBad};
+ghost use Rattle.byte_check.specs.Scan.{firstBad};
 ghost use Rattle.pool.specs.Areas.{WordsOf, over};
 
 // Whether the offset is at least the one before it.

@@ -15,38 +15,41 @@ ghost use mathlib.Core.List.{List};
 ghost use lib.ListN.{length};
 ghost use Rattle.pool.specs.Tables.{N, nameWord};
 ghost use Rattle.pool.specs.Kinds.{nameKind};
-ghost use Rattle.pool.specs.Rules.{nameFieldsOk, nameOk};
-ghost use Rattle.pool.specs.Depths.{nameDepthBy};
-ghost use Rattle.pool_check.specs.Check.{firstBad};
+ghost use Rattle.pool.specs.Rules.{nameOk};
+ghost use Rattle.pool_check.specs.Fields.{askedName, askedNameBy};
+ghost use Rattle.byte_check.specs.Scan.{firstBad};
 ghost use Rattle.pool.specs.Areas.{NamesOf, over};
 
-fn name_fields_ok(names: &[u32], t: Tables, r: usize) -> bool
+// What a row's kind asks: whether its fields are right, and its depth.
+pub struct AskedName {
+    pub right: bool,
+    pub depth: usize,
+}
+
+fn asked_name(right: bool, depth: usize) -> AskedName
+    ensures { λ v. ⌜ v ≡ askedName right depth ⌝ }
+{
+    AskedName {
+        right: right,
+        depth: depth,
+    }
+}
+
+// The row is read once, and its depth is from those of lower rows.
+fn ask_name(names: &[u32], t: Tables, r: usize, depths: &[u8]) -> AskedName
     requires { ⌜ NamesOf (now names) t ⌝ }
-    ensures { λ v. ⌜ v ≡ nameFieldsOk (now (names .entry)) r (nameKind (nameWord (now (names .entry)) r 0)) ⌝ }
+    ensures { λ v. ⌜ v ≡ askedNameBy (now (names .entry)) (now (depths .entry)) r (nameKind (nameWord (now (names .entry)) r 0)) ⌝ }
 {
     let kind = name_kind(names, t, r);
     let prefix = name_prefix(names, t, r);
     let low = name_low(names, t, r);
     let high = name_high(names, t, r);
+    let depth = 1 + byte_at(depths, prefix);
     match kind {
-        NAME_ANONYMOUS => both(prefix == 0, both(low == 0, high == 0)),
-        NAME_STRING => both(prefix < r, both(low < t.strings, high == 0)),
-        NAME_NUMBER => prefix < r,
-        _ => false,
-    }
-}
-
-// The depth of row r, from those of lower rows.
-fn name_depth(names: &[u32], t: Tables, r: usize, depths: &[u8]) -> usize
-    requires { ⌜ NamesOf (now names) t ⌝ }
-    ensures { λ v. ⌜ v ≡ nameDepthBy (now (names .entry)) (now (depths .entry)) r (nameKind (nameWord (now (names .entry)) r 0)) ⌝ }
-{
-    let kind = name_kind(names, t, r);
-    let prefix = name_prefix(names, t, r);
-    match kind {
-        NAME_STRING => 1 + byte_at(depths, prefix),
-        NAME_NUMBER => 1 + byte_at(depths, prefix),
-        _ => 1,
+        NAME_ANONYMOUS => asked_name(both(prefix == 0, both(low == 0, high == 0)), 1),
+        NAME_STRING => asked_name(both(prefix < r, both(low < t.strings, high == 0)), depth),
+        NAME_NUMBER => asked_name(prefix < r, depth),
+        _ => asked_name(false, 1),
     }
 }
 
@@ -58,14 +61,14 @@ fn scan_names(names: &[u32], t: Tables, depths: &mut [u8]) -> usize
     let count = t.names;
     let mut r: usize = 0;
     while r < count {
-        if !name_fields_ok(names, t, r) {
+        let want = ask_name(names, t, r, depths);
+        if !want.right {
             return r;
         }
-        let depth = name_depth(names, t, r, depths);
-        if 64 < depth {
+        if 64 < want.depth {
             return r;
         }
-        depths[r] = depth as u8;
+        depths[r] = want.depth as u8;
         r += 1;
     }
     r

@@ -3,16 +3,17 @@ use Prim.Native.Nat.{ℕ, zero, suc, _+_, _-_, _<_, _≤_}
 use native.Mathlib.Omega.{arith}
 use mathlib.Core.Bool.{Bool, true, false, not, _||_}
 use mathlib.Core.List.{List}
-use lib.ListN.{length}
+use lib.ListN.{length, getD}
 use mathlib.Core.Path.{_≡_, refl, sym, ap, ap₂, _∙_}
 use lib.Dec.{ltb, eqb}
+use native.Mathlib.Decide.{decLe}
 use Rattle.pool.specs.declared.tables.Tables.{Tables}
 use Rattle.pool.specs.Tables.{Pool, N, exprWord}
 use Rattle.pool.specs.Areas.{over}
 use Rattle.pool.specs.Sound.{Sound}
 use Rattle.pool.specs.Tree.{Expr, var, sort, const, app, pi, lam, letᵉ, proj, nat, str, depth}
 use Rattle.pool.specs.Unfold.{nameAt, exprAt}
-use Rattle.pool.proofs.ExprUnfolds.{var-at, app-at, let-at, proj-at, var-ok, app-ok, let-ok, proj-ok, kind-small, label-word, depth-word, depth-small}
+use Rattle.pool.proofs.ExprUnfolds.{var-at, app-at, let-at, proj-at, var-ok, let-ok, proj-ok, kind-small, label-word, depth-word, depth-small}
 use Rattle.document.specs.Sink.{State, sinkOf, putBreak, putJoin, putNest, putGroup, putNames, emit}
 use Rattle.pieces.specs.Docs.{under, tile}
 use Rattle.names.specs.Names.{nameDoc}
@@ -23,6 +24,7 @@ use Rattle.binders.specs.declared.stack.Stack.{Stack}
 use Rattle.binders.specs.Asked.{Asked, InChain, ChainPushed, PartEnd, GroupEnd}
 use Rattle.binders.specs.Binders.{Binder, isArrow}
 use Rattle.binders.specs.Variables.{varDoc}
+use Rattle.binders.specs.Spines.{dropArguments, SpineOf}
 use Rattle.binders.specs.Scopes.{namesOf, placeIn, push, scoped, Chained}
 use Rattle.binders.specs.Steps.{firstBinder, binderKind, partLength, chainLength, dropChain, nameDocs, groupLength}
 use Rattle.pieces.specs.Puts.{putColon, putArrow, startRun, endRun, openGroup, closeGroup}
@@ -73,12 +75,6 @@ module _ {bs ns ws : List ℕ} {t : Tables} {k : Stack} {h r : ℕ} (a : Asked b
   -- there are ten kinds
   pub kind-of : w 0 < 10
   kind-of = kind-small p sound r (a .row)
-
-  pub app-rows : (x : ℕ) → w 0 ≡ 3 → x ≡ w 1 → x < r
-  app-rows x e z = let ok = app-ok p sound r (a .row) e in omega (arith, ok .0)
-
-  pub app-rows-2 : (x : ℕ) → w 0 ≡ 3 → x ≡ w 2 → x < r
-  app-rows-2 x e z = let ok = app-ok p sound r (a .row) e in omega (arith, ok .1)
 
   pub proj-rows : (x : ℕ) → w 0 ≡ 7 → x ≡ w 3 → x < r
   proj-rows x e z = let ok = proj-ok p sound r (a .row) e in omega (arith, ok .2)
@@ -141,11 +137,6 @@ module _ {bs ns ws : List ℕ} {t : Tables} {k : Stack} {h r : ℕ} (a : Asked b
         closeIf (ltb 1023 outer) (putNest (opts .indent) (putGroup (emit (appPart opts p k h (exprAt p r)) (openIf (ltb 1023 outer) st))))
         ≡ emit (under outer (inScope opts p k h (exprAt p r))) st
     app-row outer st e = rw (app-at p sound r (a .row) e) (sym (app-prints opts p k h outer (exprAt p (w 1)) (exprAt p (w 2)) st))
-
-    pub spine-row : (f x : ℕ) (st : State) → w 0 ≡ 3 → f ≡ w 1 → x ≡ w 2 →
-        endTile (putGroup (emit (under 1024 (inScope opts p k h (exprAt p x))) (putBreak 1 (emit (appPart opts p k h (exprAt p f)) st))))
-        ≡ emit (appPart opts p k h (exprAt p r)) st
-    spine-row f x st e y z = rw (app-at p sound r (a .row) e, y, z) (sym (spine-prints opts p k h (exprAt p (w 1)) (exprAt p (w 2)) st))
 
     pub head-row : (st : State) → (w 0 ≡ 3 → ⊥) → putGroup (emit (under 1023 (inScope opts p k h (exprAt p r))) st) ≡ emit (appPart opts p k h (exprAt p r)) st
     head-row st n = sym (head-prints opts p k h (exprAt p r) st (λ e. n (sym (label-word p sound r (a .row)) ∙ e)))
@@ -252,6 +243,42 @@ pub part-some : (v : Bool) (e : Expr) (n : ℕ) → n ≡ partLength v e → 0 <
 unfolding partLength
 part-some true e n z l = omega arith
 part-some false e n z l = rw z (run-within (firstBinder e .isPi) e)
+
+-- ---- an application's spine
+
+module _ {bs ns ws : List ℕ} {t : Tables} {k : Stack} {h r : ℕ} (a : Asked bs ns ws t k h r) {arguments : List ℕ} {count head : ℕ}
+    (i : SpineOf (over bs ns ws) r arguments count head) where
+  pub head-asked : Asked bs ns ws t k h head
+  head-asked = record { pool = a .pool; held = a .held; scope = a .scope; row = omega (arith, i .low, a .row) }
+
+  -- an application has an argument
+  pub head-below : exprWord ws r 0 ≡ 3 → head < r
+  head-below e = by (decLe r head)
+    where
+      by : Dec (r ≤ head) → head < r
+      by (yes l) = let z : head ≡ r = omega (arith, i .low) in absurd (i .ended (rw z e))
+      by (no n) = omega arith
+
+  pub argument-below : (left x : ℕ) → left < count → x ≡ getD arguments left 0 → x < r
+  argument-below left x l e = omega (arith, i .below left l)
+
+  module _ (opts : PpOptions) where
+    pub spine-head : (st : State) → putGroup (emit (under 1023 (inScope opts (over bs ns ws) k h (exprAt (over bs ns ws) head))) st)
+        ≡ emit (appPart opts (over bs ns ws) k h (dropArguments count (exprAt (over bs ns ws) r))) st
+    spine-head st = head-row head-asked opts st (i .ended) ∙ ap (λ (e : Expr). emit (appPart opts (over bs ns ws) k h e) st) (i .tree)
+
+    pub spine-argument : (n left x : ℕ) (st : State) → n ≡ suc left → left < count → x ≡ getD arguments left 0 →
+        endTile (putGroup (emit (under 1024 (inScope opts (over bs ns ws) k h (exprAt (over bs ns ws) x)))
+        (putBreak 1 (emit (appPart opts (over bs ns ws) k h (dropArguments n (exprAt (over bs ns ws) r))) st))))
+        ≡ emit (appPart opts (over bs ns ws) k h (dropArguments left (exprAt (over bs ns ws) r))) st
+    spine-argument n left x st m l e = rw (m, e, i .argument left l) (sym (spine-prints opts (over bs ns ws) k h _ _ st))
+
+    pub spine-whole : (outer : ℕ) (st : State) → exprWord ws r 0 ≡ 3 →
+        closeIf (ltb 1023 outer)
+        (putNest (opts .indent) (putGroup (emit (appPart opts (over bs ns ws) k h (dropArguments 0 (exprAt (over bs ns ws) r))) (openIf (ltb 1023 outer) st))))
+        ≡ emit (under outer (inScope opts (over bs ns ws) k h (exprAt (over bs ns ws) r))) st
+    unfolding dropArguments
+    spine-whole outer st e = app-row a opts outer st e
 
 -- a let's head, by the rows of its parts
 pub let-head-row : {bs ns ws : List ℕ} {t : Tables} {k : Stack} {h r : ℕ} (a : Asked bs ns ws t k h r) (opts : PpOptions) (n x y : ℕ) (st : State)

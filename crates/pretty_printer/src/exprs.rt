@@ -1,14 +1,17 @@
-// Expressions: one call cycle. Each call goes to a lower row, or on the same row from a tail to an expression to a chain to its parts.
+// Expressions: one call cycle. Each call goes to a lower row, or on the same row from an expression to a chain, from a chain to its parts,
+// and from a part to its groups.
 use binders::chain::chain_length;
 use binders::chain::is_binder;
-use binders::chain::push_chain;
 use binders::group::group_end;
 use binders::group::pp_names;
+use binders::leaves::is_leaf;
 use binders::leaves::pp_leaf;
 use binders::printer::Printer;
 use binders::runs::is_arrow;
 use binders::runs::level_of;
 use binders::runs::part_end;
+use binders::spine::spine_of;
+use binders::stack::Entry;
 use binders::stack::Stack;
 use binders::vars::pp_bvar;
 use document::sink::Sink;
@@ -16,11 +19,12 @@ use document::sink::put_break;
 use document::sink::put_group;
 use document::sink::put_join;
 use document::sink::put_names;
-use document::sink::put_nest;
 use names::names::pp_name_safe;
 use pieces::parens::close_paren;
 use pieces::parens::open_paren;
 use pieces::puts::close_group;
+use pieces::puts::end_app;
+use pieces::puts::end_argument;
 use pieces::puts::end_let;
 use pieces::puts::end_proj;
 use pieces::puts::end_run;
@@ -30,9 +34,8 @@ use pieces::puts::put_assign;
 use pieces::puts::put_colon;
 use pieces::puts::start_let;
 use pieces::puts::start_run;
-use pieces::words::end_tile;
-use pool::fields::app_argument;
-use pool::fields::app_function;
+use pool::fields::binder_body;
+use pool::fields::binder_name;
 use pool::fields::binder_style;
 use pool::fields::binder_type;
 use pool::fields::expr_kind;
@@ -58,9 +61,8 @@ ghost use Rattle.document.specs.Sink.{Leaves, emit};
 ghost use Rattle.pieces.specs.Docs.{under};
 ghost use Rattle.binders.specs.Options.{optionsOf};
 ghost use Rattle.binders.specs.Asked.{Asked, InChain};
-ghost use Rattle.binders.specs.Binders.{isArrow};
-ghost use Rattle.binders.specs.Steps.{firstBinder, binderKind, chainLength, partLength};
-ghost use Rattle.pretty_printer.specs.Parts.{rowIn, appPart, chainPart, runPart, groupsPart, letHead, letBody};
+ghost use Rattle.binders.specs.Steps.{binderKind, chainLength};
+ghost use Rattle.pretty_printer.specs.Parts.{rowIn, chainPart, groupsPart, letHead, letBody};
 
 // The expression at row r, in a scope of the stack, under a level.
 pub fn pp_expr(
@@ -95,7 +97,9 @@ pub fn pp_expr(
         return pp_let(bytes, names, words, p, rows, text, s, k, scope, r, outer);
     }
     if kind == EXPR_PROJ {
-        return pp_proj(bytes, names, words, p, rows, text, s, k, scope, r);
+        let x = proj_structure(words, t, r);
+        let s = pp_expr(bytes, names, words, p, rows, text, s, k, scope, x, 1024);
+        return end_proj(rows, text, s, proj_index(words, t, r));
     }
     if is_binder(kind) {
         return pp_chain(bytes, names, words, p, rows, text, s, k, scope, r, outer);
@@ -103,7 +107,7 @@ pub fn pp_expr(
     pp_leaf(bytes, names, words, t, rows, text, s, r)
 }
 
-// An application.
+// An application: its head and its arguments, tiled. What has no parts is printed here: each call that is handed the stack copies it.
 fn pp_app(
     bytes: &[u8],
     names: &[u32],
@@ -121,112 +125,35 @@ fn pp_app(
         × (exprWord (now words) r 0 ≡ 3) ⌝ }
     ensures { λ v. ⌜ Leaves rows text s v (emit (under outer (rowIn (optionsOf p) (lent bytes names words) k scope r))) ⌝ }
 {
+    let t = p.tables;
     let wrapped = outer > 1023;
     let s = open_paren(rows, text, s, wrapped);
-    let s = pp_spine(bytes, names, words, p, rows, text, s, k, scope, r);
-    let s = put_group(rows, text, s);
-    let s = put_nest(rows, text, s, p.indent);
-    close_paren(rows, text, s, wrapped)
-}
-
-// Its head and its arguments, tiled.
-fn pp_spine(
-    bytes: &[u8],
-    names: &[u32],
-    words: &[u32],
-    p: Printer,
-    rows: &mut [u32],
-    text: &mut [u8],
-    s: Sink,
-    k: Stack,
-    scope: usize,
-    r: usize,
-) -> Sink
-    requires { ⌜ (Asked (now bytes) (now names) (now words) (p .tables) k scope r) × (exprWord (now words) r 0 ≡ 3) ⌝ }
-    ensures { λ v. ⌜ Leaves rows text s v (emit (appPart (optionsOf p) (lent bytes names words) k scope
-        (exprAt (lent bytes names words) r))) ⌝ }
-{
-    if s.stop != 0 {
-        return s;
+    let spine = spine_of(bytes, names, words, t, r);
+    let mut left = spine.count;
+    let mut o = s;
+    let x = spine.head;
+    if is_leaf(expr_kind(words, t, x)) {
+        o = pp_leaf(bytes, names, words, t, rows, text, s, x);
+    } else {
+        o = pp_expr(bytes, names, words, p, rows, text, s, k, scope, x, 1023);
     }
-    let t = p.tables;
-    let function = app_function(words, t, r);
-    let s = pp_head(bytes, names, words, p, rows, text, s, k, scope, function);
-    let s = put_break(rows, text, s, 1);
-    let argument = app_argument(words, t, r);
-    let s = pp_expr(
-        bytes,
-        names,
-        words,
-        p,
-        rows,
-        text,
-        s,
-        k,
-        scope,
-        argument,
-        1024,
-    );
-    let s = put_group(rows, text, s);
-    end_tile(rows, text, s)
-}
-
-// What an argument follows: the head, or the head and other arguments.
-fn pp_head(
-    bytes: &[u8],
-    names: &[u32],
-    words: &[u32],
-    p: Printer,
-    rows: &mut [u32],
-    text: &mut [u8],
-    s: Sink,
-    k: Stack,
-    scope: usize,
-    r: usize,
-) -> Sink
-    requires { ⌜ (Asked (now bytes) (now names) (now words) (p .tables) k scope r) ⌝ }
-    ensures { λ v. ⌜ Leaves rows text s v (emit (appPart (optionsOf p) (lent bytes names words) k scope
-        (exprAt (lent bytes names words) r))) ⌝ }
-{
-    if expr_kind(words, p.tables, r) == EXPR_APP {
-        return pp_spine(bytes, names, words, p, rows, text, s, k, scope, r);
+    o = put_group(rows, text, o);
+    while left > 0 {
+        left = left - 1;
+        let s = put_break(rows, text, o, 1);
+        let x = spine.arguments[left] as usize;
+        let kind = expr_kind(words, t, x);
+        if kind == EXPR_VAR {
+            let i = var_index(words, t, x);
+            o = pp_bvar(bytes, names, words, t, rows, text, s, k, scope, i);
+        } else if is_leaf(kind) {
+            o = pp_leaf(bytes, names, words, t, rows, text, s, x);
+        } else {
+            o = pp_expr(bytes, names, words, p, rows, text, s, k, scope, x, 1024);
+        }
+        o = end_argument(rows, text, o);
     }
-    let s = pp_expr(bytes, names, words, p, rows, text, s, k, scope, r, 1023);
-    put_group(rows, text, s)
-}
-
-// A projection, which is never in parentheses.
-fn pp_proj(
-    bytes: &[u8],
-    names: &[u32],
-    words: &[u32],
-    p: Printer,
-    rows: &mut [u32],
-    text: &mut [u8],
-    s: Sink,
-    k: Stack,
-    scope: usize,
-    r: usize,
-) -> Sink
-    requires { ⌜ (Asked (now bytes) (now names) (now words) (p .tables) k scope r) × (exprWord (now words) r 0 ≡ 7) ⌝ }
-    ensures { λ v. ⌜ Leaves rows text s v (emit (under 1024 (rowIn (optionsOf p) (lent bytes names words) k scope r))) ⌝ }
-{
-    let t = p.tables;
-    let structure = proj_structure(words, t, r);
-    let s = pp_expr(
-        bytes,
-        names,
-        words,
-        p,
-        rows,
-        text,
-        s,
-        k,
-        scope,
-        structure,
-        1024,
-    );
-    end_proj(rows, text, s, proj_index(words, t, r))
+    end_app(rows, text, o, p.indent, wrapped)
 }
 
 // A let.
@@ -297,7 +224,7 @@ fn pp_let_body(
     rows: &mut [u32],
     text: &mut [u8],
     s: Sink,
-    k: Stack,
+    mut k: Stack,
     scope: usize,
     r: usize,
 ) -> Sink
@@ -312,21 +239,16 @@ fn pp_let_body(
     if s.stop != 0 {
         return s;
     }
-    let inside = k.push(let_name(words, t, r), scope);
+    // In place, as in `pp_chain`.
+    let n = k.count;
+    let e = Entry {
+        name: let_name(words, t, r) as u16,
+        link: scope as u16,
+    };
+    k.entries[n] = e;
+    k.count = count;
     let body = let_body(words, t, r);
-    pp_expr(
-        bytes,
-        names,
-        words,
-        p,
-        rows,
-        text,
-        s,
-        inside,
-        count,
-        body,
-        0,
-    )
+    pp_expr(bytes, names, words, p, rows, text, s, k, count, body, 0)
 }
 
 // A chain: its names come into force before its binders.
@@ -338,7 +260,7 @@ fn pp_chain(
     rows: &mut [u32],
     text: &mut [u8],
     s: Sink,
-    k: Stack,
+    mut k: Stack,
     scope: usize,
     r: usize,
     outer: usize,
@@ -357,21 +279,23 @@ fn pp_chain(
     if s.stop != 0 {
         return s;
     }
-    let inside = push_chain(bytes, names, words, t, k, scope, r);
-    let s = pp_binders(
-        bytes,
-        names,
-        words,
-        p,
-        rows,
-        text,
-        s,
-        inside,
-        scope,
-        m,
-        r,
-        0,
-    );
+    // The loop of `push_chain`, on this function's own copy of the stack: a call would make two more copies.
+    let mut at = r;
+    let mut link = scope;
+    let mut kind = expr_kind(words, t, r);
+    while is_binder(kind) {
+        let n = k.count;
+        let e = Entry {
+            name: binder_name(words, t, at) as u16,
+            link: link as u16,
+        };
+        k.entries[n] = e;
+        k.count = n + 1;
+        link = n + 1;
+        at = binder_body(words, t, at);
+        kind = expr_kind(words, t, at);
+    }
+    let s = pp_binders(bytes, names, words, p, rows, text, s, k, scope, m, r, 0);
     close_paren(rows, text, s, wrapped)
 }
 
@@ -400,7 +324,8 @@ pub fn pp_tail(
     pp_expr(bytes, names, words, p, rows, text, s, k, scope, r, outer)
 }
 
-// A part of a chain: its names are on the stack from entry m on, and its first type is in a scope.
+// A part of a chain, an arrow binder or a run of others, and what follows it: its names are on the stack from entry m on, and its first
+// type is in a scope.
 fn pp_binders(
     bytes: &[u8],
     names: &[u32],
@@ -430,67 +355,15 @@ fn pp_binders(
     let end = part_end(bytes, names, words, t, r, arrow);
     let n = end.count;
     let s = open_paren(rows, text, s, wrapped);
-    let s = pp_run(
-        bytes,
-        names,
-        words,
-        p,
-        rows,
-        text,
-        s,
-        k,
-        scope,
-        m,
-        r,
-        n,
-        arrow,
-    );
-    let next = m + n;
-    let row = end.row;
-    let s = pp_tail(
-        bytes,
-        names,
-        words,
-        p,
-        rows,
-        text,
-        s,
-        k,
-        next,
-        next,
-        row,
-        inner,
-    );
-    let s = put_join(rows, text, s);
-    close_paren(rows, text, s, wrapped)
-}
-
-// An arrow binder, or a run of n others.
-fn pp_run(
-    bytes: &[u8],
-    names: &[u32],
-    words: &[u32],
-    p: Printer,
-    rows: &mut [u32],
-    text: &mut [u8],
-    s: Sink,
-    k: Stack,
-    scope: usize,
-    m: usize,
-    r: usize,
-    n: usize,
-    arrow: bool,
-) -> Sink
-    requires { ⌜ (InChain (now bytes) (now names) (now words) (p .tables) k scope m r) × (binderKind (exprWord (now words) r 0) ≡ true)
-        × (arrow ≡ isArrow (firstBinder (exprAt (given bytes names words) r)))
-        × (n ≡ partLength arrow (exprAt (given bytes names words) r)) ⌝ }
-    ensures { λ v. ⌜ Leaves rows text s v (runPart (optionsOf p) (lent bytes names words) k arrow
-        (firstBinder (exprAt (lent bytes names words) r) .isPi) scope m n (exprAt (lent bytes names words) r)) ⌝ }
-{
-    let t = p.tables;
+    let mut o = s;
     if arrow {
-        let type_row = binder_type(words, t, r);
-        let s = pp_expr(
+        let x = binder_type(words, t, r);
+        let s = pp_expr(bytes, names, words, p, rows, text, s, k, scope, x, 25);
+        o = put_arrow(rows, text, s, p.indent);
+    } else {
+        let pis = expr_kind(words, t, r) == EXPR_PI;
+        let s = start_run(rows, text, s, pis);
+        let s = telescope(
             bytes,
             names,
             words,
@@ -500,29 +373,23 @@ fn pp_run(
             s,
             k,
             scope,
-            type_row,
-            25,
+            m,
+            r,
+            n,
+            true,
         );
-        return put_arrow(rows, text, s, p.indent);
+        o = end_run(rows, text, s, p.indent, pis);
     }
-    let pis = expr_kind(words, t, r) == EXPR_PI;
-    let s = start_run(rows, text, s, pis);
-    let s = telescope(
-        bytes,
-        names,
-        words,
-        p,
-        rows,
-        text,
-        s,
-        k,
-        scope,
-        m,
-        r,
-        n,
-        true,
-    );
-    end_run(rows, text, s, p.indent, pis)
+    let m = m + n;
+    let x = end.row;
+    // As `pp_tail` does, a call of which would copy the stack once more.
+    if is_binder(expr_kind(words, t, x)) {
+        o = pp_binders(bytes, names, words, p, rows, text, o, k, m, m, x, inner);
+    } else {
+        o = pp_expr(bytes, names, words, p, rows, text, o, k, m, x, inner);
+    }
+    let s = put_join(rows, text, o);
+    close_paren(rows, text, s, wrapped)
 }
 
 // The groups of n binders, tiled; after the first, each is a further one of the tile.
@@ -553,40 +420,27 @@ pub fn telescope(
     let t = p.tables;
     let style = binder_style(words, t, r);
     let end = group_end(bytes, names, words, t, r, n);
-    let group_type = binder_type(words, t, r);
+    let its_type = binder_type(words, t, r);
     let s = open_group(rows, text, s, style, first);
     let s = pp_names(bytes, names, words, t, rows, text, s, r, end.count);
     let s = put_colon(rows, text, s);
-    let s = pp_expr(
-        bytes,
-        names,
-        words,
-        p,
-        rows,
-        text,
-        s,
-        k,
-        scope,
-        group_type,
-        1,
-    );
-    let s = close_group(rows, text, s, p.indent, style, first);
-    let next = m + end.count;
-    let left = n - end.count;
-    let row = end.row;
-    telescope(
-        bytes,
-        names,
-        words,
-        p,
-        rows,
-        text,
-        s,
-        k,
-        next,
-        next,
-        row,
-        left,
-        false,
-    )
+    // A type that has no parts, or is a chain, goes straight to its printer: a copy of the stack less, and a frame less for each type in
+    // a type.
+    let kind = expr_kind(words, t, its_type);
+    let mut o = s;
+    if is_leaf(kind) {
+        o = pp_leaf(bytes, names, words, t, rows, text, s, its_type);
+    } else if is_binder(kind) {
+        o = pp_chain(bytes, names, words, p, rows, text, s, k, scope, its_type, 1);
+    } else {
+        o = pp_expr(bytes, names, words, p, rows, text, s, k, scope, its_type, 1);
+    }
+    let s = close_group(rows, text, o, p.indent, style, first);
+    let n = n - end.count;
+    if n == 0 {
+        return s;
+    }
+    let m = m + end.count;
+    let r = end.row;
+    telescope(bytes, names, words, p, rows, text, s, k, m, m, r, n, false)
 }

@@ -7,7 +7,8 @@ use Rattle.pool.specs.Kinds.{nameKind, levelKind, exprKind}
 use Rattle.pool.specs.Tree.{forget, forgetᵈ, nameDepth, levelDepth, depth, loose, lift, occurs, nameShape, levelShape, levelShapes, shape, sameShape}
 use Rattle.pool.specs.Unfold.{nameNode, nameTo, nameAt, levelNode, levelTo, levelAt, levelsFrom, listAt, exprNode, exprTo, exprAt, declarAt}
 use Rattle.pool.specs.Rules.{rising, stringOk, nameFieldsOk, nameOk, levelFieldsOk, levelOk, listOk, listEntryOk, allDigits, natural, unused, exprFieldsOk, depthBy, looseBy, exprOk, declarOk}
-use Rattle.pool_check.specs.Check.{number, place, firstBad, rowsVerdict, verdict}
+use Rattle.byte_check.specs.Scan.{firstBad}
+use Rattle.pool_check.specs.Check.{number, place, rowsVerdict, verdict}
 use Rattle.document.specs.Doc.{rowCount, flatSize, hasBreak, firstBreak, textBytes}
 use Rattle.document.specs.Rows.{node, docAt, textBefore, rowOk, Valid, scan, whole, fault}
 use Rattle.document.specs.Stored.{ownRow, stored, Fine}

@@ -1,5 +1,6 @@
 use native.Mathlib.Omega.{arith}
-use Rattle.binders.proofs.BinderLaws.{binder-here, arrow-no, arrow-yes, turned-true, turned-false}
+use mathlib.Core.Path.{refl}
+use Rattle.binders.proofs.BinderLaws.{binder-here, arrow-no, arrow-named, arrow-unused, turned-true, turned-false}
 use borrow.Author.Needs.{needs}
 use Rattle.binders.proofs.runs.is_arrow.Statement.{statement}
 use Rattle.binders.proofs.runs.is_arrow.Tie as tie
@@ -35,14 +36,24 @@ has-macro-scopes-requires c κs =
 either-requires : tie.Need-either-requires
 either-requires c κs = search needs
 
+returns-2 : tie.Need-returns-2
+returns-2 c =
+    let at-binder-name = c .before .before .before .before in
+    let at-if1 = at-binder-name .before in
+    let at-both = at-if1 .before in
+    let at-binder-style = at-both .before in
+    let at-expr-kind = at-binder-style .before in
+    let start = at-expr-kind .before .before .before .before in
+    arrow-named _ (start .pre .0 .ready .sound) _ (start .pre .1) (start .pre .2) _ _ _ _ _ _ _ (at-expr-kind .expr-kind .ensures .0)
+    (at-binder-style .binder-style .ensures .0) (at-binder-name .binder-name .ensures .0) (at-both .both .ensures)
+    (turned-false _ (at-if1 .if1 .left)) (c .before .before .before .is-anonymous .ensures) (c .before .before .has-macro-scopes .ensures)
+    (c .before .either .ensures) (c .if2 .taken)
+
 is-used-requires : tie.Need-is-used-requires
 is-used-requires c κs = search needs
 
-either-requires-2 : tie.Need-either-requires-2
-either-requires-2 c κs = search needs
-
-returns-2 : tie.Need-returns-2
-returns-2 c =
+returns-3 : tie.Need-returns-3
+returns-3 c =
     let at-is-anonymous = c .before .before .before .before in
     let at-binder-name = at-is-anonymous .before in
     let at-if1 = at-binder-name .before in
@@ -50,10 +61,10 @@ returns-2 c =
     let at-binder-style = at-both .before in
     let at-expr-kind = at-binder-style .before in
     let start = at-expr-kind .before .before .before .before in
-    arrow-yes _ (start .pre .0 .ready .sound) _ (start .pre .1) (start .pre .2) _ _ _ _ _ _ _ _ _ (at-expr-kind .expr-kind .ensures .0)
+    arrow-unused _ (start .pre .0 .ready .sound) _ (start .pre .1) (start .pre .2) _ _ _ _ _ _ _ _ _ (at-expr-kind .expr-kind .ensures .0)
     (at-binder-style .binder-style .ensures .0) (at-binder-name .binder-name .ensures .0) (at-both .both .ensures)
     (turned-false _ (at-if1 .if1 .left)) (at-is-anonymous .is-anonymous .ensures) (c .before .before .before .has-macro-scopes .ensures)
-    (c .before .before .either .ensures) (c .before .is-used .ensures) (c .either2 .ensures)
+    (c .before .before .either .ensures) (c .before .if2 .left) (c .is-used .ensures) refl
 
 pub is-arrow-spec : {M : Type 1} → statement M
 is-arrow-spec =
@@ -67,6 +78,6 @@ is-arrow-spec =
     is-anonymous-requires
     has-macro-scopes-requires
     either-requires
+    returns-2
     is-used-requires
-    either-requires-2
-    returns-2)
+    returns-3)

@@ -14,16 +14,8 @@ returns c = sym (emit-stopped _ (state _ _ _) (ne-eqb _ 0 (c .if1 .taken)))
 binder-name-requires : tie.Need-binder-name-requires
 binder-name-requires c κs = search needs
 
-is-anonymous-requires : tie.Need-is-anonymous-requires
-is-anonymous-requires c κs =
-    let start = c .before .before .before .before .before .before .before .before in
-    let row = binder-here _ (start .pre .0 .ready .sound) _ (start .pre .1) (start .pre .2) in (start .pre .0 .ready, omega (arith, row .name, c .binder-name .ensures .0))
-
-is-used-requires : tie.Need-is-used-requires
-is-used-requires c κs = search needs
-
-both-requires : tie.Need-both-requires
-both-requires c κs = search needs
+is-hidden-requires : tie.Need-is-hidden-requires
+is-hidden-requires c κs = search needs
 
 put-word-requires : tie.Need-put-word-requires
 put-word-requires c κs = search needs
@@ -38,17 +30,13 @@ returns-2 : tie.Need-returns-2
 returns-2 c =
     let at-put-word = c .before .before .before .before in
     let at-if2 = at-put-word .before .before .before in
-    let at-both = at-if2 .before in
-    let at-is-used = at-both .before in
-    let at-is-anonymous = at-is-used .before in
-    let at-binder-name = at-is-anonymous .before in
-    let start = at-binder-name .before .before .before .before .before .before .before .before in
-    at-put-word .put-word .ensures ∙ hidden-name _ (start .pre .0 .ready .sound) _ (start .pre .1) (start .pre .2) _ _ _ _ _ (at-binder-name .binder-name .ensures .0)
-    (at-is-anonymous .is-anonymous .ensures) (at-is-used .is-used .ensures) (at-both .both .ensures) (at-if2 .if2 .taken)
+    let at-is-hidden = at-if2 .before in
+    let start = at-is-hidden .before .before .before .before .before .before .before .before .before in
+    at-put-word .put-word .ensures ∙ hidden-name _ (start .pre .0 .ready .sound) _ (start .pre .1) (start .pre .2) _ _ (at-is-hidden .is-hidden .ensures) (at-if2 .if2 .taken)
 
 pp-name-safe-requires : tie.Need-pp-name-safe-requires
 pp-name-safe-requires c κs =
-    let at-binder-name = c .before .before .before .before .before .before in
+    let at-binder-name = c .before .before .before .before in
     let start = at-binder-name .before .before .before .before .before .before .before .before in
     let row = binder-here _ (start .pre .0 .ready .sound) _ (start .pre .1) (start .pre .2) in (start .pre .0 .ready, omega (arith, row .name, at-binder-name .binder-name .ensures .0))
 
@@ -62,13 +50,10 @@ returns-3 : tie.Need-returns-3
 returns-3 c =
     let at-pp-name-safe = c .before .before .before .before in
     let at-if2 = at-pp-name-safe .before .before .before in
-    let at-both = at-if2 .before in
-    let at-is-used = at-both .before in
-    let at-is-anonymous = at-is-used .before in
-    let at-binder-name = at-is-anonymous .before in
+    let at-is-hidden = at-if2 .before in
+    let at-binder-name = at-is-hidden .before in
     let start = at-binder-name .before .before .before .before .before .before .before .before in
-    at-pp-name-safe .pp-name-safe .ensures ∙ shown-name _ (start .pre .0 .ready .sound) _ (start .pre .1) (start .pre .2) _ _ _ _ _ (at-binder-name .binder-name .ensures .0)
-    (at-is-anonymous .is-anonymous .ensures) (at-is-used .is-used .ensures) (at-both .both .ensures) (at-if2 .if2 .left)
+    at-pp-name-safe .pp-name-safe .ensures ∙ shown-name _ (start .pre .0 .ready .sound) _ (start .pre .1) (start .pre .2) _ _ _ (at-binder-name .binder-name .ensures .0) (at-is-hidden .is-hidden .ensures) (at-if2 .if2 .left)
 
 pub pp-binder-name-spec : {M : Type 1} → statement M
 pp-binder-name-spec =
@@ -76,9 +61,7 @@ pp-binder-name-spec =
     (tie.spec
     returns
     binder-name-requires
-    is-anonymous-requires
-    is-used-requires
-    both-requires
+    is-hidden-requires
     put-word-requires
     same-length
     same-length-2

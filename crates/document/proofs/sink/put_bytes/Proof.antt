@@ -1,74 +1,95 @@
 use mathlib.Core.Path.{_≡_, sym, ap, _∙_}
-use Prim.Native.Nat.{_+_, _-_, _≤_}
-use lib.ListN.{length, drop}
-use Rattle.document.specs.Sink.{putBytes}
+use Prim.Native.Nat.{ℕ, _≤_}
+use mathlib.Core.List.{List}
+use native.Mathlib.Omega.{arith}
+use lib.ListN.{length}
+use Rattle.document.specs.Sink.{roomOf}
 use Rattle.document.specs.Sink.State.{state}
-use Rattle.document.proofs.Areas.{bytes-step, bytes-end}
+use Rattle.document.proofs.Areas.{bytes-one, bytes-fit, room-within, further}
 use borrow.Author.Needs.{needs}
 use Rattle.document.proofs.sink.put_bytes.Statement.{statement}
 use Rattle.document.proofs.sink.put_bytes.Tie as tie
 
-abbrev Inv-loop : tie.InvT-loop
-Inv-loop rows₀ text₀ bytes o₀ i₀ rows text o i =
-    (i ≤ length bytes) × (length rows ≡ length rows₀) × (length text ≡ length text₀) × (putBytes (drop i bytes) (state rows text o) ≡ putBytes bytes (state rows₀ text₀ o₀))
-
-abbrev μ-loop : tie.MeasureT-loop
-μ-loop rows₀ text₀ bytes o₀ i₀ rows text o i = length bytes - i
-
-loop-holds : tie.Need-loop-holds Inv-loop μ-loop
-loop-holds c = search needs
-
-shared-slice-read-put-byte : tie.Need-shared-slice-read-put-byte Inv-loop μ-loop
+shared-slice-read-put-byte : tie.Need-shared-slice-read-put-byte
 shared-slice-read-put-byte c = search needs
 
-put-byte-requires : tie.Need-put-byte-requires Inv-loop μ-loop
-put-byte-requires c κs = tt
+put-byte-requires : tie.Need-put-byte-requires
+put-byte-requires c κs = search needs
 
-add-i : tie.Need-add-i Inv-loop μ-loop
-add-i c = search needs
-
-loop-less : tie.Need-loop-less Inv-loop μ-loop
-loop-less c = search needs
-
-loop-again : tie.Need-loop-again Inv-loop μ-loop
-loop-again c =
-    let at-put-byte = c .before .before .before .before in
-    let at-loop-test = at-put-byte .before .before .before .before in
-    let at-loop = at-loop-test .before in
-    let start = at-loop .before .before .before .before in
-    let a = start .args in
-    let l = at-loop .loop in (
-      search needs,
-      search needs,
-      search needs,
-      ap (putBytes (drop (l .i + 1) (a .bytes .now))) (at-put-byte .put-byte .ensures)
-          ∙ bytes-step (state (l .rows) (l .text) (l .o)) (a .bytes .now) (l .i) (at-loop-test .loop-test .taken) ∙ l .inv .3,
-    )
-
-same-length : tie.Need-same-length Inv-loop μ-loop
+same-length : tie.Need-same-length
 same-length c = search needs
 
-same-length-2 : tie.Need-same-length-2 Inv-loop μ-loop
+same-length-2 : tie.Need-same-length-2
 same-length-2 c = search needs
 
-returns : tie.Need-returns Inv-loop μ-loop
+returns : tie.Need-returns
 returns c =
-    let start = c .before .before .before .before .before in
-    let l = c .before .loop in
-    sym (bytes-end (state (l .rows) (l .text) (l .o)) (start .args .bytes .now) (l .i) (c .loop-test .left)) ∙ l .inv .3
+    let at-put-byte = c .before .before .before .before in
+    let at-if1 = at-put-byte .before .before .before .before in
+    let start = at-if1 .before .before .before .before in
+    at-put-byte .put-byte .ensures ∙ bytes-one (state (start .args .rows .now) (start .args .text .now) (start .args .s)) (start .args .bytes .now) (at-if1 .if1 .taken)
+
+room-requires : tie.Need-room-requires
+room-requires c κs = search needs
+
+put-each-requires : tie.Need-put-each-requires
+put-each-requires c κs = search needs
+
+same-length-3 : tie.Need-same-length-3
+same-length-3 c = search needs
+
+same-length-4 : tie.Need-same-length-4
+same-length-4 c = search needs
+
+returns-2 : tie.Need-returns-2
+returns-2 c = search needs
+
+store-requires : tie.Need-store-requires
+store-requires c κs =
+    let start = c .before .before .before .before .before .before .before in
+    let a = start .args in
+    let e = c .before .before .room .ensures in
+    let h : length (a .bytes .now) ≤ roomOf (a .s) (length (a .text .now)) = omega (arith, e) in
+    room-within (a .s) (length (a .text .now)) (length (a .bytes .now)) h .0
+
+add-t14 : tie.Need-add-t14
+add-t14 c =
+    let at-room = c .before .before .before .before .before in
+    let start = at-room .before .before .before .before .before in
+    let a = start .args in
+    let e = at-room .room .ensures in
+    let h : length (a .bytes .now) ≤ roomOf (a .s) (length (a .text .now)) = omega (arith, e) in
+    let w = room-within (a .s) (length (a .text .now)) (length (a .bytes .now)) h .1 in
+    omega (arith, w)
+
+same-length-5 : tie.Need-same-length-5
+same-length-5 c = search needs
+
+returns-3 : tie.Need-returns-3
+returns-3 c =
+    let at-room = c .before .before .before .before .before in
+    let start = at-room .before .before .before .before .before in
+    let a = start .args in
+    let e = at-room .room .ensures in
+    let h : length (a .bytes .now) ≤ roomOf (a .s) (length (a .text .now)) = omega (arith, e) in
+    ap (λ (l : List ℕ). state (a .rows .now) l (further (a .s) (length (a .bytes .now)))) (c .before .before .store .ensures)
+    ∙ sym (bytes-fit (a .bytes .now) (a .rows .now) (a .text .now) (a .s) h)
 
 pub put-bytes-spec : {M : Type 1} → statement M
 put-bytes-spec =
     tie.close
     (tie.spec
-    Inv-loop
-    μ-loop
-    loop-holds
     shared-slice-read-put-byte
     put-byte-requires
-    add-i
-    loop-less
-    loop-again
     same-length
     same-length-2
-    returns)
+    returns
+    room-requires
+    put-each-requires
+    same-length-3
+    same-length-4
+    returns-2
+    store-requires
+    add-t14
+    same-length-5
+    returns-3)

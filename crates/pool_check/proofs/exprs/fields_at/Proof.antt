@@ -41,16 +41,18 @@ returns c =
     let at-expr-word3 = c .before .before .before .before in
     let at-expr-word2 = at-expr-word3 .before in
     let at-expr-word = at-expr-word2 .before in
-    let at-expr-kind = at-expr-word .before in
-    rw (
-      at-expr-kind .expr-kind .ensures .0,
-      at-expr-word .expr-word .ensures .0,
-      at-expr-word2 .expr-word2 .ensures .0,
-      at-expr-word3 .expr-word3 .ensures .0,
-      c .before .before .before .expr-word4 .ensures .0,
-      c .before .before .expr-word5 .ensures .0,
-      c .before .expr-depth .ensures .0,
-      c .expr-loose .ensures .0,
+    let at-expr-kind = at-expr-word .before in (
+      rw (
+        at-expr-kind .expr-kind .ensures .0,
+        at-expr-word .expr-word .ensures .0,
+        at-expr-word2 .expr-word2 .ensures .0,
+        at-expr-word3 .expr-word3 .ensures .0,
+        c .before .before .before .expr-word4 .ensures .0,
+        c .before .before .expr-word5 .ensures .0,
+        c .before .expr-depth .ensures .0,
+        c .expr-loose .ensures .0,
+      ),
+      at-expr-word .expr-word .ensures .1,
     )
 
 pub fields-at-spec : {M : Type 1} → statement M

@@ -1,4 +1,4 @@
-use Rattle.pool_check.proofs.NaturalLaws.{nat-marked}
+use Rattle.pool_check.proofs.MarkLaws.{nat-marked}
 use borrow.Author.Needs.{needs}
 use Rattle.pool_check.proofs.exprs.nat_ok.Statement.{statement}
 use Rattle.pool_check.proofs.exprs.nat_ok.Tie as tie

@@ -1,3 +1,4 @@
+use Rattle.basics.proofs.Booleans.{true-false}
 use borrow.Author.Needs.{needs}
 use Rattle.pool_check.proofs.exprs.scan_marked.Statement.{statement}
 use Rattle.pool_check.proofs.exprs.scan_marked.Tie as tie
@@ -19,7 +20,7 @@ returns : tie.Need-returns
 returns c =
     let at-mark-naturals = c .before .before .before .before in
     let start = at-mark-naturals .before .before .before .before .before .before in
-    c .scan-exprs .ensures (start .args .bytes .now) (λ i l e. at-mark-naturals .mark-naturals .ensures (start .args .words .now))
+    c .scan-exprs .ensures (start .args .bytes .now) (λ e. at-mark-naturals .mark-naturals .ensures (start .args .words .now)) .found (λ f e. true-false f)
 
 pub scan-marked-spec : {M : Type 1} → statement M
 scan-marked-spec =

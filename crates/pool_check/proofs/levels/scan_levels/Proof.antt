@@ -4,9 +4,9 @@ use Rattle.pool.specs.Tree.{levelDepth}
 use Rattle.pool.specs.Rules.{levelFieldsOk, levelOk}
 use Rattle.pool.specs.Kinds.{levelKind}
 use Rattle.pool.specs.Tables.{L, levelWord}
-use Rattle.pool_check.proofs.Scan.{bad-start, bad-step, bad-found, bad-none}
+use Rattle.byte_check.proofs.Scan.{bad-start, bad-step, bad-found, bad-none}
 use Rattle.pool.specs.Areas.{over}
-use Rattle.pool_check.specs.Check.{firstBad}
+use Rattle.byte_check.specs.Scan.{firstBad}
 use borrow.Author.Count.{below-more, below-none}
 use borrow.Author.Tests.{not-true, not-false}
 use lib.ListN.{length, getD, length-set}

@@ -1,8 +1,8 @@
 use Rattle.pool.specs.Rules.{listOk}
 use Rattle.pool.specs.Tables.{K}
-use Rattle.pool_check.proofs.Scan.{bad-start, bad-step, bad-found, bad-none}
+use Rattle.byte_check.proofs.Scan.{bad-start, bad-step, bad-found, bad-none}
 use Rattle.pool.specs.Areas.{over}
-use Rattle.pool_check.specs.Check.{firstBad}
+use Rattle.byte_check.specs.Scan.{firstBad}
 use borrow.Author.Tests.{not-true, not-false}
 use mathlib.Core.List.{List}
 use Prim.Native.Nat.{ℕ, _≤_, _-_}

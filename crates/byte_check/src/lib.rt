@@ -1,0 +1,3 @@
+// What reads bytes in check: the strings, and the naturals among them.
+pub mod naturals;
+pub mod strings;
