@@ -6,10 +6,10 @@ use std::path::{Path, PathBuf};
 use tilusorgu::pool_file::encode;
 use tilusorgu::Pool;
 
-/// Each print checks the pool's 16,777,216 bytes first, so that some dozens take long enough for the line.
+/// Each print checks the pool's 16,777,216 bytes first, so that some dozens take long enough for the line. Characters of four bytes take longest.
 fn slow() -> PathBuf {
     let words = vec![1, 2, 0, 1, 0, 1, 1, 0, 1 << 24, 0, 0, 0, 0, 1, 0, 0, 0, 0, 0, 2, 0, 0, 0, 0, 0, 1, 0, 0, 0, 0, 0, 0];
-    file("slow.pool", &encode(&Pool { bytes: vec![b'n'; 1 << 24], words }))
+    file("slow.pool", &encode(&Pool { bytes: "𝔸".repeat(1 << 22).into_bytes(), words }))
 }
 
 /// A command line that lists this pool's declaration so many times.
