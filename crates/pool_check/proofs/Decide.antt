@@ -2,15 +2,12 @@
 use Prim.Native.Nat.{ℕ, zero, suc, _≤_, _<_}
 use mathlib.Core.Bool.{cond}
 use mathlib.Core.List.{List}
-use mathlib.Core.Path.{_≡_, refl, sym, ap, _∙_}
+use mathlib.Core.Path.{_≡_, refl}
 use lib.Dec.{ltb, eqb}
 use borrow.Author.Tests.{lt-ltb, le-ltb, le-leb, lt-leb}
-use Rattle.pool_check.specs.declared.exprs.Fields.{Fields}
-use Rattle.pool.specs.Tables.{exprWord}
-use Rattle.pool.specs.Kinds.{nameKind, noNameᵏ, levelKind, noLevelᵏ, exprKind, noExprᵏ}
+use Rattle.pool.specs.Kinds.{nameKind, noNameᵏ, levelKind, noLevelᵏ}
 use Rattle.pool.specs.Unfold.{hasValue}
 use Rattle.pool.specs.Depths.{levelDepthBy}
-use Rattle.pool_check.specs.Fields.{fieldsOf}
 
 pub name-none : (k : ℕ) → (k ≡ 0 → ⊥) → (k ≡ 1 → ⊥) → (k ≡ 2 → ⊥) → nameKind k ≡ noNameᵏ
 unfolding nameKind
@@ -36,26 +33,6 @@ level-leaf ws ds r (suc (suc zero)) a b c = absurd (b refl)
 level-leaf ws ds r (suc (suc (suc zero))) a b c = absurd (c refl)
 level-leaf ws ds r (suc (suc (suc (suc zero)))) a b c = refl
 level-leaf ws ds r (suc (suc (suc (suc (suc k))))) a b c = refl
-
--- a row's kind, read with its other words
-pub kind-is : (ws : List ℕ) (r k : ℕ) (f : Fields) → f ≡ fieldsOf ws r → f .kind ≡ k → exprWord ws r 0 ≡ k
-kind-is ws r k f e q = sym (ap (λ (g : Fields). g .kind) e) ∙ q
-
--- ten and above
-pub expr-none : (k : ℕ) → (k ≡ 0 → ⊥) → (k ≡ 1 → ⊥) → (k ≡ 2 → ⊥) → (k ≡ 3 → ⊥) → (k ≡ 4 → ⊥) → (k ≡ 5 → ⊥) → (k ≡ 6 → ⊥)
-    → (k ≡ 7 → ⊥) → (k ≡ 8 → ⊥) → (k ≡ 9 → ⊥) → exprKind k ≡ noExprᵏ
-unfolding exprKind
-expr-none zero a b c d e f g h i j = absurd (a refl)
-expr-none (suc zero) a b c d e f g h i j = absurd (b refl)
-expr-none (suc (suc zero)) a b c d e f g h i j = absurd (c refl)
-expr-none (suc (suc (suc zero))) a b c d e f g h i j = absurd (d refl)
-expr-none (suc (suc (suc (suc zero)))) a b c d e f g h i j = absurd (e refl)
-expr-none (suc (suc (suc (suc (suc zero))))) a b c d e f g h i j = absurd (f refl)
-expr-none (suc (suc (suc (suc (suc (suc zero)))))) a b c d e f g h i j = absurd (g refl)
-expr-none (suc (suc (suc (suc (suc (suc (suc zero))))))) a b c d e f g h i j = absurd (h refl)
-expr-none (suc (suc (suc (suc (suc (suc (suc (suc zero)))))))) a b c d e f g h i j = absurd (i refl)
-expr-none (suc (suc (suc (suc (suc (suc (suc (suc (suc zero))))))))) a b c d e f g h i j = absurd (j refl)
-expr-none (suc (suc (suc (suc (suc (suc (suc (suc (suc (suc k)))))))))) a b c d e f g h i j = refl
 
 -- a declaration's value
 module _ (k value exprs : ℕ) where

@@ -3,4 +3,3 @@ pub mod Decide
 pub mod Verdicts
 pub mod Acceptance
 pub mod NumberLaws
-pub mod MarkLaws

@@ -2,12 +2,11 @@
 use Prim.Native.Nat.{ℕ, zero, suc, _-_}
 use native.Mathlib.Omega.{arith}
 use mathlib.Core.Bool.{true}
-use mathlib.Core.List.{[], _∷_}
 use mathlib.Core.Path.{_≡_, refl, sym, ap}
-use lib.Dec.{leb, eqb}
+use lib.Dec.{leb}
 use borrow.Author.Tests.{leb-true}
-use Rattle.basics.proofs.Booleans.{and-left, and-right, and-true}
-use Rattle.pool.specs.Rules.{rising, unused}
+use Rattle.basics.proofs.Booleans.{and-left, and-right}
+use Rattle.pool.specs.Rules.{rising}
 use Rattle.pool.specs.declared.tables.Tables.{Tables}
 use Rattle.pool_check.specs.Stages.{limits, Small}
 
@@ -19,10 +18,6 @@ pub rising-on : (f : ℕ → ℕ) (r : ℕ) → (r ≡ 0 → ⊥) → leb (f (r 
 unfolding rising
 rising-on f zero h = absurd (h refl)
 rising-on f (suc r) h = let e : suc r - 1 ≡ r = omega arith in ap (λ (k : ℕ). leb (f k) (f (suc r))) e
-
-pub unused-one : (a : ℕ) → eqb a 0 ≡ unused (a ∷ [])
-unfolding unused
-unused-one a = sym (and-true (eqb a 0))
 
 pub small : (t : Tables) (size : ℕ) → limits t size ≡ true → Small t
 small t size h =

@@ -1,6 +1,5 @@
 -- what a reader must believe, in 01's order
 pub mod Check
 -- what the contracts and the proofs speak of
-pub mod Fields
+pub mod Asked
 pub mod Stages
-pub mod Marks

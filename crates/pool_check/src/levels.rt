@@ -1,7 +1,7 @@
 // The levels: kind, a, b.
-use crate::num::byte_at;
 use basics::bools::both;
 use basics::numbers::larger;
+use byte_check::table::byte_at;
 use pool::fields::level_first;
 use pool::fields::level_kind;
 use pool::fields::level_second;

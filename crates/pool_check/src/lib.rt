@@ -1,13 +1,12 @@
 // Check: whether a pool keeps document 01's rules (numbers 1 to 4).
 mod declars;
-mod exprs;
 mod levels;
 mod lists;
 mod names;
-mod num;
 
 use basics::bools::both;
 use byte_check::strings::first_bad_string;
+use expr_check::exprs::first_bad_expr;
 use pool::tables::Tables;
 use pool::tables::tables_of;
 ghost use mathlib.Core.Path.{_≡_};
@@ -63,7 +62,7 @@ fn check_words(bytes: &[u8], names: &[u32], words: &[u32], t: Tables) -> Verdict
     if entry < t.entries {
         return Verdict::Rows { row: entry };
     }
-    let expr = exprs::first_bad_expr(bytes, names, words, t);
+    let expr = first_bad_expr(bytes, names, words, t);
     if expr < t.exprs {
         return Verdict::Rows { row: expr };
     }

@@ -1,6 +1,6 @@
 // The names: kind, prefix, low, high.
-use crate::num::byte_at;
 use basics::bools::both;
+use byte_check::table::byte_at;
 use pool::fields::name_high;
 use pool::fields::name_kind;
 use pool::fields::name_low;
@@ -16,7 +16,7 @@ ghost use lib.ListN.{length};
 ghost use Rattle.pool.specs.Tables.{N, nameWord};
 ghost use Rattle.pool.specs.Kinds.{nameKind};
 ghost use Rattle.pool.specs.Rules.{nameOk};
-ghost use Rattle.pool_check.specs.Fields.{askedName, askedNameBy};
+ghost use Rattle.pool_check.specs.Asked.{askedName, askedNameBy};
 ghost use Rattle.byte_check.specs.Scan.{firstBad};
 ghost use Rattle.pool.specs.Areas.{NamesOf, over};
 

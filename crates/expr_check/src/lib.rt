@@ -1,0 +1,3 @@
+// The rules of expression rows in check.
+pub mod exprs;
+mod unused;
