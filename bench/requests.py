@@ -196,6 +196,65 @@ def level_layers(count, wide):
     return two_lambdas(types[0], types[1], b)
 
 
+def doubling_types(b, doublings, count):
+    """So many types, each the one before lifted by one: `fun (x x : T) => c` over the type below, a loose variable at the bottom. The second of two equal types is
+    not shown, so that the tree doubles and the listing does not."""
+    c, name, rows = b.expr(const("c")), b.name(("x",)), [b.expr(var(300 + i)) for i in range(doublings + count)]
+    for _ in range(doublings):
+        inner = [b.row(5, (name, 0, of, c), (of,), c) for of in rows[1:]]
+        rows = [b.row(5, (name, 0, of, body), (of,), body) for of, body in zip(rows, inner)]
+    return c, rows
+
+
+def applied(b, head, row, copies):
+    """A constant applied to so many copies of a row."""
+    for _ in range(copies):
+        head = b.row(3, (head, row), (head, row))
+    return rust.Request(EXPRESSION, head, 2, 80, *b.pool())
+
+
+def padded(rows):
+    """A builder with so many constants that nothing names."""
+    b = Builder(False)
+    row = b.tables[EXPRS][b.expr(C)]
+    for _ in range(rows):
+        b.append(EXPRS, row)
+    return b
+
+
+def names_over_doublings(doublings, count, copies):
+    """Lambdas with no name over such a type: each asks whether its variable occurs in what follows it."""
+    b = padded(50000)
+    c, types = doubling_types(b, doublings, 1)
+    row, name = types[0], b.name(())
+    for _ in range(count):
+        row = b.row(5, (name, 0, c, row), (c,), row)
+    return applied(b, c, row, copies)
+
+
+def group_of_doublings(doublings, count, copies):
+    """A group of so many lambdas whose types are equal after lifting, each in rows of its own."""
+    b = padded(40000)
+    c, types = doubling_types(b, doublings, count)
+    row, name = c, b.name(("x",))
+    for of in reversed(types):
+        row = b.row(5, (name, 0, of, row), (of,), row)
+    return applied(b, c, row, copies)
+
+
+def lists_of_towers(count):
+    """fun (a : C) (b : C) => c, where the constants' lists have so many levels, `max l l` 62 deep, of two towers in turn."""
+    b = Builder(False)
+    for _ in range(60000):
+        b.append(LEVELS, (0, 0, 0))
+    towers = [level_tower(b, 62), level_tower(b, 62)]
+    for i in range(count + 1):
+        b.append(WORDS, (towers[i % 2],))
+    lists = [b.append(LISTS, (i, count)) for i in range(2)]
+    first, second = [b.row(2, (b.name(("C",)), at)) for at in lists]
+    return two_lambdas(first, second, b)
+
+
 def separate_lambdas(n):
     """fun (a : X) (b : X) => c over X = `app x x` n deep, the second X in rows of its own and its variable lifted by one."""
     return lam("a", self_applied(n, var(0)), lam("b", self_applied(n, var(1)), const("c")))
@@ -221,6 +280,10 @@ def pools():
     yield "250 layers of 252 lambdas over two neighbours, two of the top layer as two lambdas' types", neighbour_layers(250)
     for wide in (2, 500):
         yield "62 layers of %d levels `max`, over the rows 2i and 2i + 1, in two lambdas' sorts, rows of their own" % wide, level_layers(62, wide)
+    yield "8 times 210 lambdas without names over `fun (x x : T) => c` nested 17 deep, a variable loose", names_over_doublings(17, 210, 8)
+    yield "8 groups of 200 lambdas of types `fun (x x : T) => c` nested 17 deep, rows of their own", group_of_doublings(17, 200, 8)
+    yield "4 groups of 125 lambdas of such types nested 60 deep", group_of_doublings(60, 125, 4)
+    yield "two constants with lists of 65,000 levels `max l l` 62 deep, separate rows", lists_of_towers(65000)
 
 
 # ---- the deepest trees

@@ -8,6 +8,9 @@ use tilusorgu::{Pool, Sizes};
 #[derive(Default)]
 struct Rows {
     levels: Vec<[u32; 3]>,
+    /// The lists after the empty one, and the list words.
+    lists: Vec<[u32; 2]>,
+    entries: Vec<u32>,
     exprs: Vec<[u32; 8]>,
 }
 
@@ -77,6 +80,22 @@ impl Rows {
         self.levels.len() as u32 - 1
     }
 
+    /// `count` types, each the one before lifted by one: `fun (x x : T) => c` over the type below, a loose variable at the bottom. The second
+    /// of two equal types is not shown, so that the tree doubles and the listing does not.
+    fn doubling_types(&mut self, doublings: u32, count: u32) -> Vec<u32> {
+        let c = self.constant(3);
+        let mut rows: Vec<u32> = (0..doublings + count).map(|i| self.var(300 + i)).collect();
+        for _ in 0..doublings {
+            rows = (1..rows.len())
+                .map(|i| {
+                    let inner = self.binder(5, rows[i], c);
+                    self.binder(5, rows[i - 1], inner)
+                })
+                .collect();
+        }
+        rows
+    }
+
     /// fun (x : first) (x : second) => c
     fn two_lambdas(mut self, first: u32, second: u32) -> Pool {
         let c = self.constant(3);
@@ -93,11 +112,14 @@ impl Rows {
 
     fn pool(self) -> Pool {
         let (strings, names) = ([[0, 1], [1, 1], [2, 1]], [[0, 0, 0, 0], [1, 0, 0, 0], [1, 0, 1, 0], [1, 0, 2, 0]]);
-        let mut words = vec![3, 4, self.levels.len() as u32, 1, 0, self.exprs.len() as u32, 0];
+        let counts = [self.levels.len(), 1 + self.lists.len(), self.entries.len(), self.exprs.len()].map(|n| n as u32);
+        let mut words = vec![3, 4, counts[0], counts[1], counts[2], counts[3], 0];
         words.extend(strings.iter().flatten());
         words.extend(names.iter().flatten());
         words.extend(self.levels.iter().flatten());
         words.extend([0, 0]);
+        words.extend(self.lists.iter().flatten());
+        words.extend(self.entries);
         words.extend(self.exprs.iter().flatten());
         Pool { bytes: b"xCc".to_vec(), words }
     }
@@ -182,5 +204,65 @@ fn a_variable_far_down_occurs() {
         let body = rows.app(wide, last);
         let listing = printed(rows.under_a_pi(body)).unwrap();
         assert_eq!((listing.starts_with("@C →"), listing.starts_with("forall (x : @C),")), (arrow, !arrow), "{leaf}");
+    }
+}
+
+/// Rows that nothing names stand below the others: what goes over all rows meets them too.
+fn padded() -> Rows {
+    let mut rows = Rows::default();
+    (0..50_000).for_each(|_| drop(rows.constant(2)));
+    rows
+}
+
+#[test]
+fn lambdas_without_names_over_doubling_types() {
+    for (leaf, shown) in [(0, "x"), (300, "_")] {
+        let mut rows = padded();
+        let (c, mut row) = (rows.constant(3), rows.doubling_types(17, 1)[0]);
+        // the variable of the last of them, or one of none
+        let var = rows.var(leaf);
+        row = rows.app(row, var);
+        for _ in 0..200 {
+            row = rows.row(5, [0, 0, c, row, 0], &[c], Some(row), 0);
+        }
+        let listing = printed(rows.pool()).unwrap();
+        let last = if shown == "x" { "«»" } else { "_" };
+        let names = listing.split_once(" :").unwrap().0.split_whitespace().collect::<Vec<_>>();
+        assert_eq!((names.len(), names[0], names[1], names[200]), (201, "fun", "(_", last));
+    }
+}
+
+#[test]
+fn groups_of_doubling_types() {
+    // all of one type; the last of another one
+    for (doublings, count, other) in [(17, 200, false), (17, 200, true), (60, 125, false)] {
+        let mut rows = padded();
+        rows.exprs.truncate(40_000);
+        let types = rows.doubling_types(doublings, count + 1);
+        let mut row = rows.constant(3);
+        for k in (0..count as usize).rev() {
+            let lifted = k + (other && k == count as usize - 1) as usize;
+            row = rows.binder(5, types[lifted], row);
+        }
+        let listing = printed(rows.pool()).unwrap();
+        let names = listing.split_once(" :").unwrap().0.split_whitespace().count() - 1;
+        assert_eq!(names as u32, count - other as u32, "{doublings} {count} {other}");
+    }
+}
+
+#[test]
+fn long_lists_of_levels() {
+    for (different, together) in [(false, true), (true, false)] {
+        let mut rows = Rows { levels: vec![[0, 0, 0]; 60_000], ..Rows::default() };
+        let tops = [(); 2].map(|()| rows.level_layers(62, 2, doubled));
+        let last = rows.level([1, tops[0], 0]);
+        rows.entries = (0..65_001).map(|i| tops[i % 2]).collect();
+        rows.lists = vec![[0, 65_000], [1, 65_000]];
+        if different {
+            rows.entries[65_000] = last;
+        }
+        let (first, second) = (rows.row(2, [2, 1, 0, 0, 0], &[], None, 0), rows.row(2, [2, 2, 0, 0, 0], &[], None, 0));
+        let listing = printed(rows.two_lambdas(first, second)).unwrap();
+        assert_eq!(listing, if together { "fun (x x : @C) => @c" } else { "fun (x : @C) (x : @C) => @c" });
     }
 }

@@ -1,8 +1,9 @@
-//! Strings that overlap: check answers as it does for each string alone, in a time that is linear in the bytes and words.
+//! Strings that overlap: check answers as it does for each string alone, in a time that is linear in the bytes and words; and long strings are compared
+//! to their ends.
 use std::sync::mpsc;
 use std::time::Duration;
 use tilusorgu::calls::check;
-use tilusorgu::{with_stack, Refusal};
+use tilusorgu::{with_stack, Pool, Refusal, Sizes};
 
 const AREA: u32 = 16_777_216;
 
@@ -114,4 +115,56 @@ fn naturals_of_the_whole_area() {
     let mut letter = area;
     letter[AREA as usize - 1] = b'n';
     assert_eq!(soon(letter, words(&strings, &rows)), Err(Refusal { number: 4, place: 0 }));
+}
+
+/// fun (x : first) (x : second) => "", the types two rows with these words, over strings (0 is empty) and names (0 is anonymous, 1 is x).
+fn two_types(bytes: Vec<u8>, strings: &[Pair], names: &[[u32; 4]], types: [[u32; 8]; 2]) -> Pool {
+    let mut words = vec![2 + strings.len() as u32, 2 + names.len() as u32, 0, 0, 0, 5, 0, 0, 0, 0, 1];
+    words.extend(strings.iter().flat_map(|&(offset, length)| [offset, length]));
+    words.extend([0, 0, 0, 0, 1, 0, 1, 0]);
+    words.extend(names.iter().flatten());
+    words.extend([9, 0, 0, 0, 0, 0, 1, 0]);
+    words.extend(types.iter().flatten());
+    let depth = types[0][6].max(1);
+    words.extend([5, 1, 0, 2, 0, 0, depth + 1, 0, 5, 1, 0, 1, 3, 0, depth + 2, 0]);
+    Pool { bytes, words }
+}
+
+/// Are the two binders one group?
+fn together(pool: &Pool) -> bool {
+    let listing = pool.list_expr(4, Sizes { indent: 2, width: 80 }).unwrap().text;
+    listing.starts_with("fun (x x :")
+}
+
+#[test]
+fn strings_are_compared_to_their_ends() {
+    with_stack(|| {
+        for length in [0, 1, 63, 64, 65, 127, 128, 129, 200] {
+            let literal = |row| [9, row, 0, 0, 0, 0, 1, 0];
+            let pool = |bytes| two_types(bytes, &[(1, length), (1 + length, length)], &[], [literal(2), literal(3)]);
+            let bytes = || [b"x".as_slice(), &"ab".repeat(100).as_bytes()[..length as usize].repeat(2)].concat();
+            assert!(together(&pool(bytes())), "{length}");
+            for at in 0..length as usize {
+                let mut other = bytes();
+                other[1 + length as usize + at] += 1;
+                assert!(!together(&pool(other)), "{length} {at}");
+            }
+        }
+    });
+}
+
+/// The name of a projection's type is not shown, so that no limit of the document bounds it.
+#[test]
+fn names_that_no_listing_shows() {
+    with_stack(|| {
+        for (changed, one_group) in [(None, true), (Some(AREA as usize - 1), false)] {
+            let mut bytes = vec![b'x'; AREA as usize];
+            changed.into_iter().for_each(|at: usize| bytes[at] = b'y');
+            let components = |string: u32, first: u32| (0..8).map(move |i| [1, if i == 0 { 0 } else { first + i - 1 }, string, 0]);
+            let names: Vec<[u32; 4]> = components(2, 2).chain(components(3, 10)).collect();
+            let projection = |name| [7, name, 0, 0, 0, 0, 2, 0];
+            let pool = two_types(bytes, &[(1, AREA - 2), (2, AREA - 2)], &names, [projection(9), projection(17)]);
+            assert_eq!(together(&pool), one_group);
+        }
+    });
 }

@@ -1,4 +1,5 @@
 pub mod SeenLaws
 pub mod NameLaws
 pub mod LevelLaws
+pub mod ListLaws
 pub mod EqualLaws

@@ -38,6 +38,17 @@ module _ (x y : List ℕ) (i : ℕ) (hx : i < length x) (hy : i < length y) (v :
   pub bytes-off : (getD x i 0 ≡ getD y i 0 → ⊥) → sameBytes (drop i x) (drop i y) ≡ v → false ≡ v
   bytes-off n s = sym (bytes-next ∙ ap (λ (b : Bool). b && sameBytes (drop (i + 1) x) (drop (i + 1) y)) (ne-eqb _ _ n)) ∙ s
 
+-- equal bytes may be passed many at a time
+pub bytes-past : (x y : List ℕ) (i n : ℕ) (v : Bool) → i + n ≤ length x → i + n ≤ length y
+    → ((k : ℕ) → k < n → getD x (i + k) 0 ≡ getD y (i + k) 0)
+    → sameBytes (drop i x) (drop i y) ≡ v → sameBytes (drop (i + n) x) (drop (i + n) y) ≡ v
+bytes-past x y i zero v hx hy e s = let none : i + 0 ≡ i = omega arith in rw none s
+bytes-past x y i (suc n) v hx hy e s =
+    let one : i + suc n ≡ i + n + 1 = omega arith in
+    let before : sameBytes (drop (i + n) x) (drop (i + n) y) ≡ v =
+    bytes-past x y i n v (omega arith) (omega arith) (λ k h. e k (omega arith)) s in
+    rw one (bytes-on x y (i + n) (omega arith) (omega arith) v (e n (omega arith)) before)
+
 pub bytes-end : (x y : List ℕ) (i : ℕ) (v : Bool) → length x ≤ i → length y ≤ i → sameBytes (drop i x) (drop i y) ≡ v → true ≡ v
 unfolding sameBytes
 bytes-end x y i v hx hy s = sym (ap₂ sameBytes (drop-all i x hx) (drop-all i y hy)) ∙ s

@@ -7,11 +7,12 @@ use lib.Dec.{ltb, eqb}
 use lib.ListN.{take, drop}
 use Rattle.utf8.specs.Letterlike.{sameBytes}
 use Rattle.pool.specs.declared.tables.Tables.{Tables}
-use Rattle.pool.specs.Tables.{Pool, N, L, Q, E, stringWord, nameWord, levelWord, exprWord}
+use Rattle.pool.specs.Tables.{Pool, N, L, Q, E, stringWord, nameWord, levelWord, listEntry, exprWord}
 use Rattle.pool.specs.Areas.{over}
 use Rattle.pool.specs.Ready.{Ready}
 use Rattle.pool.specs.Tree.{Shape, nameShape, levelShape, levelShapes, sameShape, sameShapes, lift, same}
 use Rattle.pool.specs.Unfold.{nameAt, levelAt, levelsFrom, listAt, exprAt}
+use Rattle.links.specs.Links.{Owes}
 use Rattle.compare.specs.Seen.{Holds}
 use Rattle.occurrence.specs.Parts.{firstPart, secondPart, bodyPart}
 
@@ -84,6 +85,12 @@ pub record TwoLists (bs ns ws : List ℕ) (t : Tables) (x y n : ℕ) : Type 0 wh
   pub ready : Ready bs ns ws t
   pub x-fits : x + n ≤ Q ws
   pub y-fits : y + n ≤ Q ws
+
+-- what was owed, and the n levels from the list words x and y on to be equal, is owed now, and nothing else
+pub record LinkedLists (ws before after : List ℕ) (x y n : ℕ) : Type 0 where
+  pub down : (S : ℕ → Shape) → Owes S S after → Owes S S before
+  pub tied : (S : ℕ → Shape) → Owes S S after → (i : ℕ) → i < n → S (listEntry ws (x + i)) ≡ S (listEntry ws (y + i))
+  pub up : (S : ℕ → Shape) → Owes S S before → ((i : ℕ) → i < n → S (listEntry ws (x + i)) ≡ S (listEntry ws (y + i))) → Owes S S after
 
 -- ---- expressions
 

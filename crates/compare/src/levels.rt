@@ -1,7 +1,8 @@
-// Equality of levels and of lists of levels.
+// Equality of levels.
 use super::names;
 use super::seen;
 use basics::numbers::larger;
+use links::highest;
 use links::is_clear;
 use links::link;
 use links::take;
@@ -9,18 +10,15 @@ use occurrence::occurs::Tried;
 use pool::fields;
 use pool::kinds::LEVEL_PARAM;
 use pool::kinds::LEVEL_ZERO;
-use pool::tables;
 use pool::tables::Tables;
 ghost use mathlib.Core.Path.{_≡_};
 ghost use Prim.Native.Nat.{_<_, _≤_};
 ghost use Rattle.pool.specs.Areas.{lent};
-ghost use Rattle.pool.specs.Tables.{L, K};
-ghost use Rattle.pool.specs.Tree.{levelShapes, sameShapes};
-ghost use Rattle.pool.specs.Unfold.{listAt};
+ghost use Rattle.pool.specs.Tables.{L};
 ghost use Rattle.pool.specs.Ready.{Ready};
 ghost use Rattle.links.specs.Links.{Clear, Stepped, Settled};
 ghost use Rattle.occurrence.specs.Asked.{Told};
-ghost use Rattle.compare.specs.Equal.{Quick, Compared, levelsSame, levelShapeAt, EqualLevels, Branches, TwoLevels, listsSame, TwoLists};
+ghost use Rattle.compare.specs.Equal.{Quick, Compared, levelsSame, levelShapeAt, EqualLevels, Branches, TwoLevels};
 
 // A first look: 0 where they differ, 1 where they are equal, 2 where their parts say.
 fn glance(bytes: &[u8], names: &[u32], words: &[u32], t: Tables, a: usize, b: usize) -> usize
@@ -98,7 +96,7 @@ fn level_all(bytes: &[u8], names: &[u32], words: &[u32], t: Tables, a: usize, b:
 }
 
 // In a number of steps, and with no table.
-fn try_level(
+pub(crate) fn try_level(
     bytes: &[u8],
     names: &[u32],
     words: &[u32],
@@ -167,7 +165,7 @@ fn level_row(
 }
 
 // All that the rows below n owe, from the top down.
-fn level_rows(
+pub(crate) fn level_rows(
     bytes: &[u8],
     names: &[u32],
     words: &[u32],
@@ -178,13 +176,13 @@ fn level_rows(
     requires { ⌜ (Ready (now bytes) (now names) (now words) t) × (n ≤ L (now words)) ⌝ }
     ensures { λ v. ⌜ Settled (levelShapeAt (lent bytes names words)) (now (owed .entry)) v ⌝ }
 {
-    let mut x = n;
+    let mut x = highest(owed, n);
     while 0 < x {
-        x -= 1;
-        let v = level_row(bytes, names, words, t, owed, x);
+        let v = level_row(bytes, names, words, t, owed, x - 1);
         if v != 1 {
             return v;
         }
+        x = highest(owed, x - 1);
     }
     if is_clear(owed) {
         return 1;
@@ -245,46 +243,4 @@ pub fn same_level(bytes: &[u8], names: &[u32], words: &[u32], t: Tables, a: usiz
         return many == 1;
     }
     level_all(bytes, names, words, t, a, b)
-}
-
-// As many levels from the list words x and y on.
-fn levels(
-    bytes: &[u8],
-    names: &[u32],
-    words: &[u32],
-    t: Tables,
-    x: usize,
-    y: usize,
-    n: usize,
-) -> bool
-    requires { ⌜ TwoLists (now bytes) (now names) (now words) t x y n ⌝ }
-    ensures { λ v. ⌜ v ≡ listsSame (lent bytes names words) x y n ⌝ }
-{
-    let mut i = 0;
-    while i < n {
-        let level_x = tables::list_entry(words, t, x + i);
-        let level_y = tables::list_entry(words, t, y + i);
-        if !same_level(bytes, names, words, t, level_x, level_y) {
-            return false;
-        }
-        i += 1;
-    }
-    true
-}
-
-pub fn same_list(bytes: &[u8], names: &[u32], words: &[u32], t: Tables, a: usize, b: usize) -> bool
-    requires { ⌜ (Ready (now bytes) (now names) (now words) t) × (a < K (now words)) × (b < K (now words)) ⌝ }
-    ensures { λ v. ⌜ v ≡ sameShapes (levelShapes (listAt (lent bytes names words) a))
-        (levelShapes (listAt (lent bytes names words) b)) ⌝ }
-{
-    if a == b {
-        return true;
-    }
-    let size = fields::list_length(words, t, a);
-    if size != fields::list_length(words, t, b) {
-        return false;
-    }
-    let from_a = fields::list_offset(words, t, a);
-    let from_b = fields::list_offset(words, t, b);
-    levels(bytes, names, words, t, from_a, from_b, size)
 }

@@ -1,4 +1,5 @@
 // Equality of strings and of names.
+use super::bytes::same_bytes;
 use pool::fields;
 use pool::kinds::LENGTH;
 use pool::kinds::NAME_ANONYMOUS;
@@ -16,22 +17,6 @@ ghost use Rattle.pool.specs.Tree.{nameShape, sameShape};
 ghost use Rattle.pool.specs.Unfold.{nameAt};
 ghost use Rattle.pool.specs.Ready.{Ready};
 ghost use Rattle.compare.specs.Equal.{stringOf, numberOf, TwoNames, endsSame};
-
-pub fn same_bytes(x: &[u8], y: &[u8]) -> bool
-    ensures { λ v. ⌜ v ≡ sameBytes (now (x .entry)) (now (y .entry)) ⌝ }
-{
-    if x.len() != y.len() {
-        return false;
-    }
-    let mut i = 0;
-    while i < x.len() {
-        if x[i] != y[i] {
-            return false;
-        }
-        i += 1;
-    }
-    true
-}
 
 // The strings of two rows.
 pub fn same_string(bytes: &[u8], names: &[u32], a: usize, b: usize) -> bool

@@ -1,5 +1,6 @@
 // Equality of the trees of two rows, the first one lifted.
 use super::levels;
+use super::lists;
 use super::names;
 use super::seen;
 use occurrence::parts;
@@ -98,7 +99,7 @@ fn same_const(bytes: &[u8], names: &[u32], words: &[u32], t: Tables, a: usize, b
     }
     let list_a = fields::const_list(words, t, a);
     let list_b = fields::const_list(words, t, b);
-    levels::same_list(bytes, names, words, t, list_a, list_b)
+    lists::same_list(bytes, names, words, t, list_a, list_b)
 }
 
 // Where a row of these kinds has the number beside its name: a let's nondep, a style or an index.

@@ -6,7 +6,9 @@ use mathlib.Core.Bool.{Bool, true, false, _&&_}
 use mathlib.Core.List.{List}
 use mathlib.Core.Path.{_≡_, refl, sym, ap, ap₂, _∙_, subst}
 use lib.ListN.{getD, set, length}
-use Rattle.basics.proofs.Booleans.{and-both, true-false, not-so}
+use lib.Dec.{ltb}
+use borrow.Author.Tests.{ltb-true}
+use Rattle.basics.proofs.Booleans.{and-both, and-left, true-false, not-so}
 use Rattle.pool.specs.Tables.{Pool, exprWord}
 use Rattle.pool.specs.Tree.{Shape, Expr, shape, lift, sameShape}
 use Rattle.pool.specs.Unfold.{exprAt}
@@ -246,6 +248,10 @@ module _ (p : Pool) (d c : ℕ) (Start : Type 0) (cur next owed : List ℕ) (dow
 
     pub two-up : w ≡ 1 → Start → Owed p d (c + 2) cur₂ next₂ owed₂
     two-up e s = two-on p d c cur₂ next₂ owed₂ (level-on p d (c + 1) next₂ cur₂ owed₂ (l₂ .clear e) (l₂ .moved .up e (up₁ s)))
+
+-- a level is swept while there are levels left, and something is owed
+pub goes-on : (c depth most : ℕ) (more : Bool) → more ≡ ltb c depth && ltb 0 most → more ≡ true → c < depth
+goes-on c depth most more e h = ltb-true c depth (and-left (ltb c depth) (ltb 0 most) (sym e ∙ h))
 
 pub levels-end : (p : Pool) (d c : ℕ) (Start : Type 0) (cur next owed : List ℕ) → (Owed p d c cur next owed → Start) → (Start → Owed p d c cur next owed)
     → Clear cur → Clear next → Moved Start (Owes (treeAt p) (treeAt p) owed) 1

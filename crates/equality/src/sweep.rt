@@ -2,8 +2,10 @@
 // what rows have to be as they are in a third. Each row of a level is met once.
 use super::puts::link_parts;
 use super::puts::put_parts;
+use basics::bools::both;
 use basics::numbers::larger;
 use compare::trees::agree;
+use links::highest;
 use links::is_clear;
 use links::put;
 use links::take;
@@ -67,13 +69,13 @@ fn lifted_rows(
     ensures { λ v. ⌜ Level (lent bytes names words) d c (now (cur .entry)) (now (next .entry)) (now (owed .entry))
         (now (cur .exit)) (now (next .exit)) (now (owed .exit)) v ⌝ }
 {
-    let mut a = n;
+    let mut a = highest(cur, n);
     while 0 < a {
-        a -= 1;
-        let v = lifted_row(bytes, names, words, t, cur, next, owed, d, a, c);
+        let v = lifted_row(bytes, names, words, t, cur, next, owed, d, a - 1, c);
         if v != 1 {
             return v;
         }
+        a = highest(cur, a - 1);
     }
     if is_clear(cur) {
         return 1;
@@ -81,7 +83,7 @@ fn lifted_rows(
     2
 }
 
-// Two levels at a time, since the arrays take turns, as many as the trees are deep.
+// Two levels at a time, since the arrays take turns, while something is owed, and as many as the trees are deep.
 fn levels(
     bytes: &[u8],
     names: &[u32],
@@ -99,7 +101,7 @@ fn levels(
         (Owes (treeAt (lent bytes names words)) (treeAt (lent bytes names words)) (now (owed .exit))) v ⌝ }
 {
     let mut c = 0;
-    while c < depth {
+    while both(c < depth, 0 < highest(cur, n)) {
         let v = lifted_rows(bytes, names, words, t, cur, next, owed, d, n, c);
         if v != 1 {
             return v;
@@ -153,13 +155,13 @@ fn plain_rows(
     requires { ⌜ (Ready (now bytes) (now names) (now words) t) × (n ≤ E (now words)) ⌝ }
     ensures { λ v. ⌜ Settled (treeAt (lent bytes names words)) (now (owed .entry)) v ⌝ }
 {
-    let mut x = n;
+    let mut x = highest(owed, n);
     while 0 < x {
-        x -= 1;
-        let v = plain_row(bytes, names, words, t, owed, x);
+        let v = plain_row(bytes, names, words, t, owed, x - 1);
         if v != 1 {
             return v;
         }
+        x = highest(owed, x - 1);
     }
     if is_clear(owed) {
         return 1;

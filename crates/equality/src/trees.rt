@@ -142,7 +142,7 @@ fn settle(
     if a <= steps {
         return sweep_all(bytes, names, words, t, a, b, d);
     }
-    if steps < 65536 {
+    if steps < 4096 {
         return settle(bytes, names, words, t, a, b, d, steps * 16);
     }
     sweep_all(bytes, names, words, t, a, b, d)

@@ -113,3 +113,46 @@ pub fn is_clear(owed: &[u32]) -> bool
     }
     most == 0
 }
+
+// Whether none of the 16 rows from x on owes anything. The loop stops nowhere, so that the machine takes them all at a time.
+fn is_free(owed: &[u32], x: usize) -> bool
+    requires { ⌜ x + 16 ≤ length (now owed) ⌝ }
+{
+    let mut all: u32 = 0;
+    let mut i = 0;
+    while i < 16 {
+        all = all | owed[x + i];
+        i += 1;
+    }
+    all == 0
+}
+
+// Past blocks of rows that owe nothing, from row n down.
+fn pass_free(owed: &[u32], n: usize) -> usize
+    requires { ⌜ n ≤ length (now owed) ⌝ }
+    ensures { λ v. ⌜ v ≤ n ⌝ }
+{
+    let mut a = n;
+    while 16 <= a {
+        if !is_free(owed, a - 16) {
+            return a;
+        }
+        a -= 16;
+    }
+    a
+}
+
+// The row after the highest one below n that owes something, 0 where none does. No proof depends on more than that it is at most n: whether
+// anything was passed over is asked of `is_clear`.
+pub fn highest(owed: &[u32], n: usize) -> usize
+    ensures { λ v. ⌜ v ≤ n ⌝ }
+{
+    let mut a = pass_free(owed, lesser(n, owed.len()));
+    while 0 < a {
+        if owed[a - 1] != 0 {
+            return a;
+        }
+        a -= 1;
+    }
+    a
+}

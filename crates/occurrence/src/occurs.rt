@@ -159,7 +159,7 @@ fn settle(
     if r <= steps {
         return sweep_all(bytes, names, words, t, r, i);
     }
-    if steps < 65536 {
+    if steps < 4096 {
         return settle(bytes, names, words, t, r, i, steps * 16);
     }
     sweep_all(bytes, names, words, t, r, i)

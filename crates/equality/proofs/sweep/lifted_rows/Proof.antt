@@ -17,16 +17,19 @@ Inv-loop bytes names words t cur₀ next₀ owed₀ d n c a₀ cur next owed a =
 abbrev μ-loop : tie.MeasureT-loop
 μ-loop bytes names words t cur₀ next₀ owed₀ d n c a₀ cur next owed a = a
 
-loop-holds : tie.Need-loop-holds Inv-loop μ-loop
-loop-holds c = (omega arith, refl, refl, refl, λ o. o, λ o. o)
+highest-requires : tie.Need-highest-requires Inv-loop μ-loop
+highest-requires c κs = tt
 
-sub-a : tie.Need-sub-a Inv-loop μ-loop
-sub-a c = omega arith
+loop-holds : tie.Need-loop-holds Inv-loop μ-loop
+loop-holds c = (omega (arith, c .highest .ensures), refl, refl, refl, λ o. o, λ o. o)
+
+sub-lifted-row : tie.Need-sub-lifted-row Inv-loop μ-loop
+sub-lifted-row c = omega arith
 
 lifted-row-requires : tie.Need-lifted-row-requires Inv-loop μ-loop
 lifted-row-requires c κs =
     let at-loop = c .before .before .before .before in
-    let start = at-loop .before .before .before .before .before .before .before in
+    let start = at-loop .before .before .before .before .before .before .before .before .before in
     (start .pre .0, omega (arith, start .pre .1, at-loop .loop .inv .0))
 
 same-length : tie.Need-same-length Inv-loop μ-loop
@@ -51,7 +54,7 @@ returns : tie.Need-returns Inv-loop μ-loop
 returns c =
     let at-lifted-row = c .before .before .before .before .before .before .before in
     let at-loop = at-lifted-row .before .before .before .before .before in
-    let start = at-loop .before .before .before .before .before .before .before in
+    let start = at-loop .before .before .before .before .before .before .before .before .before in
     record {
       moved = loop-stops (Owed (over (start .args .bytes .now) (start .args .names .now) (start .args .words .now)) (start .args .d) (start .args .c) (start .args .cur .now)
           (start .args .next .now) (start .args .owed .now)) (Owed (over (start .args .bytes .now) (start .args .names .now) (start .args .words .now)) (start .args .d) (start .args .c)
@@ -60,27 +63,35 @@ returns c =
       clear = λ e. absurd (c .if1 .taken e);
     }
 
+sub-highest : tie.Need-sub-highest Inv-loop μ-loop
+sub-highest c = omega arith
+
+highest-requires-2 : tie.Need-highest-requires-2 Inv-loop μ-loop
+highest-requires-2 c κs = tt
+
 loop-less : tie.Need-loop-less Inv-loop μ-loop
-loop-less c = omega arith
+loop-less c =
+    let at-loop-test = c .before .before .before .before .before .before .before .before .before .before .before .before .before in
+    omega (arith, c .highest2 .ensures, at-loop-test .loop-test .taken)
 
 loop-again : tie.Need-loop-again Inv-loop μ-loop
 loop-again c =
-    let at-lifted-row = c .before .before .before .before .before .before .before in
+    let at-if1 = c .before .before in
+    let at-lifted-row = at-if1 .before .before .before .before .before .before .before in
     let at-loop = at-lifted-row .before .before .before .before .before in
-    let start = at-loop .before .before .before .before .before .before .before in (
-      omega
-          (arith, at-loop .loop .inv .0),
+    let start = at-loop .before .before .before .before .before .before .before .before .before in (
+      omega (arith, c .highest2 .ensures, at-loop .loop .inv .0),
       at-lifted-row .lifted-row .kept .1 .1 .1 .1 .0 ∙ at-loop .loop .inv .1,
       at-lifted-row .lifted-row .kept .1 .1 .1 .1 .1 .0 ∙ at-loop .loop .inv .2,
       at-lifted-row .lifted-row .kept .1 .1 .1 .1 .1 .1 .0 ∙ at-loop .loop .inv .3,
       loop-down (Owed (over (start .args .bytes .now) (start .args .names .now) (start .args .words .now))
           (start .args .d) (start .args .c) (start .args .cur .now) (start .args .next .now) (start .args .owed .now)) (Owed (over (start .args .bytes .now) (start .args .names .now)
           (start .args .words .now)) (start .args .d) (start .args .c) (at-loop .loop .cur) (at-loop .loop .next) (at-loop .loop .owed)) (at-loop .loop .inv .4) (at-loop .loop .inv .5) _ _
-          (at-lifted-row .lifted-row .ensures) (c .if1 .left),
+          (at-lifted-row .lifted-row .ensures) (at-if1 .if1 .left),
       loop-up (Owed (over (start .args .bytes .now) (start .args .names .now) (start .args .words .now)) (start .args .d)
           (start .args .c) (start .args .cur .now) (start .args .next .now) (start .args .owed .now)) (Owed (over (start .args .bytes .now) (start .args .names .now)
           (start .args .words .now)) (start .args .d) (start .args .c) (at-loop .loop .cur) (at-loop .loop .next) (at-loop .loop .owed)) (at-loop .loop .inv .4) (at-loop .loop .inv .5) _ _
-          (at-lifted-row .lifted-row .ensures) (c .if1 .left),
+          (at-lifted-row .lifted-row .ensures) (at-if1 .if1 .left),
     )
 
 is-clear-requires : tie.Need-is-clear-requires Inv-loop μ-loop
@@ -104,7 +115,7 @@ same-length-6 c =
 returns-2 : tie.Need-returns-2 Inv-loop μ-loop
 returns-2 c =
     let at-loop = c .before .before .before .before in
-    let start = at-loop .before .before .before .before .before .before .before in
+    let start = at-loop .before .before .before .before .before .before .before .before .before in
     record {
       moved = loop-ends (Owed (over (start .args .bytes .now) (start .args .names .now) (start .args .words .now)) (start .args .d) (start .args .c) (start .args .cur .now)
           (start .args .next .now) (start .args .owed .now)) (Owed (over (start .args .bytes .now) (start .args .names .now) (start .args .words .now)) (start .args .d) (start .args .c)
@@ -136,13 +147,16 @@ lifted-rows-spec =
     (tie.spec
     Inv-loop
     μ-loop
+    highest-requires
     loop-holds
-    sub-a
+    sub-lifted-row
     lifted-row-requires
     same-length
     same-length-2
     same-length-3
     returns
+    sub-highest
+    highest-requires-2
     loop-less
     loop-again
     is-clear-requires

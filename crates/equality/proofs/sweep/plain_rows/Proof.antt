@@ -17,15 +17,18 @@ Inv-loop bytes names words t owed₀ n x₀ owed x = (x ≤ n) × (length owed �
 abbrev μ-loop : tie.MeasureT-loop
 μ-loop bytes names words t owed₀ n x₀ owed x = x
 
-loop-holds : tie.Need-loop-holds Inv-loop μ-loop
-loop-holds c = (omega arith, refl, λ o. o, λ o. o)
+highest-requires : tie.Need-highest-requires Inv-loop μ-loop
+highest-requires c κs = tt
 
-sub-x : tie.Need-sub-x Inv-loop μ-loop
-sub-x c = omega arith
+loop-holds : tie.Need-loop-holds Inv-loop μ-loop
+loop-holds c = (omega (arith, c .highest .ensures), refl, λ o. o, λ o. o)
+
+sub-plain-row : tie.Need-sub-plain-row Inv-loop μ-loop
+sub-plain-row c = omega arith
 
 plain-row-requires : tie.Need-plain-row-requires Inv-loop μ-loop
 plain-row-requires c κs =
-    let start = c .before .before .before .before .before .before .before in
+    let start = c .before .before .before .before .before .before .before .before .before in
     (start .pre .0, omega (arith, start .pre .1, c .before .before .loop .inv .0))
 
 same-length : tie.Need-same-length Inv-loop μ-loop
@@ -36,25 +39,34 @@ same-length c =
 returns : tie.Need-returns Inv-loop μ-loop
 returns c =
     let at-loop = c .before .before .before .before .before .before in
-    let start = at-loop .before .before .before .before .before in
+    let start = at-loop .before .before .before .before .before .before .before in
     pass-stops (treeAt (over (start .args .bytes .now) (start .args .names .now) (start .args .words .now))) (start .args .owed .now) (at-loop .loop .owed) (at-loop .loop .inv .2)
     (at-loop .loop .inv .3) _ _ (c .before .before .before .plain-row .ensures) (c .if1 .taken)
 
+sub-highest : tie.Need-sub-highest Inv-loop μ-loop
+sub-highest c = omega arith
+
+highest-requires-2 : tie.Need-highest-requires-2 Inv-loop μ-loop
+highest-requires-2 c κs = tt
+
 loop-less : tie.Need-loop-less Inv-loop μ-loop
-loop-less c = omega arith
+loop-less c =
+    let at-loop-test = c .before .before .before .before .before .before .before in
+    omega (arith, c .highest2 .ensures, at-loop-test .loop-test .taken)
 
 loop-again : tie.Need-loop-again Inv-loop μ-loop
 loop-again c =
-    let at-plain-row = c .before .before .before in
+    let at-if1 = c .before .before in
+    let at-plain-row = at-if1 .before .before .before in
     let at-loop = at-plain-row .before .before .before in
-    let start = at-loop .before .before .before .before .before in (
-      omega (arith, at-loop .loop .inv .0),
+    let start = at-loop .before .before .before .before .before .before .before in (
+      omega (arith, c .highest2 .ensures, at-loop .loop .inv .0),
       at-plain-row .plain-row .kept .1 .1 .1 .1 .0 ∙ at-loop .loop .inv .1,
       pass-down (treeAt (over (start .args .bytes .now)
           (start .args .names .now) (start .args .words .now))) (start .args .owed .now) (at-loop .loop .owed) (at-loop .loop .inv .2) (at-loop .loop .inv .3) _ _
-          (at-plain-row .plain-row .ensures) (c .if1 .left),
+          (at-plain-row .plain-row .ensures) (at-if1 .if1 .left),
       pass-up (treeAt (over (start .args .bytes .now) (start .args .names .now) (start .args .words .now))) (start .args .owed .now)
-          (at-loop .loop .owed) (at-loop .loop .inv .2) (at-loop .loop .inv .3) _ _ (at-plain-row .plain-row .ensures) (c .if1 .left),
+          (at-loop .loop .owed) (at-loop .loop .inv .2) (at-loop .loop .inv .3) _ _ (at-plain-row .plain-row .ensures) (at-if1 .if1 .left),
     )
 
 is-clear-requires : tie.Need-is-clear-requires Inv-loop μ-loop
@@ -68,7 +80,7 @@ same-length-2 c =
 returns-2 : tie.Need-returns-2 Inv-loop μ-loop
 returns-2 c =
     let at-loop = c .before .before .before .before in
-    let start = at-loop .before .before .before .before .before in
+    let start = at-loop .before .before .before .before .before .before .before in
     pass-ends (treeAt (over (start .args .bytes .now) (start .args .names .now) (start .args .words .now))) (start .args .owed .now) (at-loop .loop .owed) (at-loop .loop .inv .2)
     (at-loop .loop .inv .3) (c .before .is-clear .ensures (c .if2 .taken))
 
@@ -79,7 +91,7 @@ same-length-3 c =
 
 returns-3 : tie.Need-returns-3 Inv-loop μ-loop
 returns-3 c =
-    let start = c .before .before .before .before .before .before .before .before .before in
+    let start = c .before .before .before .before .before .before .before .before .before .before .before in
     gives-up (treeAt (over (start .args .bytes .now) (start .args .names .now) (start .args .words .now))) _
 
 pub plain-rows-spec : {M : Type 1} → statement M
@@ -88,11 +100,14 @@ plain-rows-spec =
     (tie.spec
     Inv-loop
     μ-loop
+    highest-requires
     loop-holds
-    sub-x
+    sub-plain-row
     plain-row-requires
     same-length
     returns
+    sub-highest
+    highest-requires-2
     loop-less
     loop-again
     is-clear-requires

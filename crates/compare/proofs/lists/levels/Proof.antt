@@ -5,8 +5,8 @@ use mathlib.Core.Path.{_≡_}
 use Rattle.pool.specs.Areas.{over}
 use Rattle.compare.specs.Equal.{listsSame}
 use Rattle.compare.proofs.LevelLaws.{list-start, list-end, entry-differs, entry-agrees, entries-there}
-use Rattle.compare.proofs.levels.levels.Statement.{statement}
-use Rattle.compare.proofs.levels.levels.Tie as tie
+use Rattle.compare.proofs.lists.levels.Statement.{statement}
+use Rattle.compare.proofs.lists.levels.Tie as tie
 
 abbrev Inv-loop : tie.InvT-loop
 Inv-loop bytes names words t x y n i₀ i = (i ≤ n)

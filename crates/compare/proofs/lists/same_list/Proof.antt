@@ -1,7 +1,7 @@
 use borrow.Author.Needs.{needs}
 use Rattle.compare.proofs.LevelLaws.{one-list, other-lengths, lists-there, lists-are}
-use Rattle.compare.proofs.levels.same_list.Statement.{statement}
-use Rattle.compare.proofs.levels.same_list.Tie as tie
+use Rattle.compare.proofs.lists.same_list.Statement.{statement}
+use Rattle.compare.proofs.lists.same_list.Tie as tie
 
 returns : tie.Need-returns
 returns c =
@@ -25,8 +25,8 @@ list-offset-requires c κs = search needs
 list-offset-requires-2 : tie.Need-list-offset-requires-2
 list-offset-requires-2 c κs = search needs
 
-levels-requires : tie.Need-levels-requires
-levels-requires c κs =
+same-entries-requires : tie.Need-same-entries-requires
+same-entries-requires c κs =
     let at-list-length = c .before .before .before .before in
     let start = at-list-length .before .before .before .before .before in
     lists-there _ _ _ _ (start .pre .0) _ _ (start .pre .1) (start .pre .2) _ _ (at-list-length .list-length .ensures .0)
@@ -40,7 +40,7 @@ returns-3 c =
     let start = at-list-length .before .before .before .before .before in
     lists-are _ _ _ _ (start .pre .0) _ _ (start .pre .1) (start .pre .2) _ _ (at-list-length .list-length .ensures .0)
     (at-list-length2 .list-length2 .ensures .0) (c .before .before .before .if2 .left) _ _ (c .before .before .list-offset .ensures .0)
-    (c .before .list-offset2 .ensures .0) _ (c .levels .ensures)
+    (c .before .list-offset2 .ensures .0) _ (c .same-entries .ensures)
 
 pub same-list-spec : {M : Type 1} → statement M
 same-list-spec =
@@ -52,5 +52,5 @@ same-list-spec =
     returns-2
     list-offset-requires
     list-offset-requires-2
-    levels-requires
+    same-entries-requires
     returns-3)
