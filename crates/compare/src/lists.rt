@@ -175,8 +175,8 @@ fn settle_entries(
     levels(bytes, names, words, t, x, y, n)
 }
 
-// Most lists are compared in few steps, a long one in as many as it has levels. The arrays stay in a function of their own: it is called from
-// two places, and so is not made a part of this one, which is called for each constant.
+// Most lists are compared in few steps, a long one in as many as it has levels. The arrays stay in a function of their own: it is called
+// from two places, and so is not made a part of this one, which is called for each constant.
 fn same_entries(
     bytes: &[u8],
     names: &[u32],

@@ -19,7 +19,8 @@ is-used-requires c κs = search needs
 returns : tie.Need-returns
 returns c =
     let start = c .before .before .before .before .before .before .before in
-    no-name _ (start .pre .0 .ready .sound) _ (start .pre .1) (start .pre .2) _ _ _ _ (c .before .before .before .binder-name .ensures .0) (c .before .before .is-anonymous .ensures) (c .before .if1 .taken) (c .is-used .ensures) refl
+    no-name _ (start .pre .0 .ready .sound) _ (start .pre .1) (start .pre .2) _ _ _ _ (c .before .before .before .binder-name .ensures .0)
+    (c .before .before .is-anonymous .ensures) (c .before .if1 .taken) (c .is-used .ensures) refl
 
 returns-2 : tie.Need-returns-2
 returns-2 c =

@@ -53,7 +53,8 @@ returns-3 c =
     let at-is-hidden = at-if2 .before in
     let at-binder-name = at-is-hidden .before in
     let start = at-binder-name .before .before .before .before .before .before .before .before in
-    at-pp-name-safe .pp-name-safe .ensures ∙ shown-name _ (start .pre .0 .ready .sound) _ (start .pre .1) (start .pre .2) _ _ _ (at-binder-name .binder-name .ensures .0) (at-is-hidden .is-hidden .ensures) (at-if2 .if2 .left)
+    at-pp-name-safe .pp-name-safe .ensures ∙ shown-name _ (start .pre .0 .ready .sound) _ (start .pre .1) (start .pre .2) _ _ _ (at-binder-name .binder-name .ensures .0)
+    (at-is-hidden .is-hidden .ensures) (at-if2 .if2 .left)
 
 pub pp-binder-name-spec : {M : Type 1} → statement M
 pp-binder-name-spec =

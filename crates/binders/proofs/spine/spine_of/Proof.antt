@@ -56,13 +56,15 @@ loop-less : tie.Need-loop-less Inv-loop μ-loop
 loop-less c =
     let at-loop = c .before .before .before .before in
     let start = at-loop .before .before .before .before in
-    spining-falls _ (start .pre .0 .ready .sound) _ _ _ _ (at-loop .loop .inv) (sym (c .before .before .before .expr-kind .ensures .0) ∙ c .before .before .if1 .taken) _ _ (c .app-function .ensures .0) (c .before .app-argument .ensures .0) (c .before .app-argument .ensures .1)
+    spining-falls _ (start .pre .0 .ready .sound) _ _ _ _ (at-loop .loop .inv) (sym (c .before .before .before .expr-kind .ensures .0) ∙ c .before .before .if1 .taken) _ _
+    (c .app-function .ensures .0) (c .before .app-argument .ensures .0) (c .before .app-argument .ensures .1)
 
 loop-again : tie.Need-loop-again Inv-loop μ-loop
 loop-again c =
     let at-loop = c .before .before .before .before in
     let start = at-loop .before .before .before .before in
-    spining-next _ (start .pre .0 .ready .sound) _ _ _ _ (at-loop .loop .inv) (sym (c .before .before .before .expr-kind .ensures .0) ∙ c .before .before .if1 .taken) _ _ (c .app-function .ensures .0) (c .before .app-argument .ensures .0) (c .before .app-argument .ensures .1)
+    spining-next _ (start .pre .0 .ready .sound) _ _ _ _ (at-loop .loop .inv) (sym (c .before .before .before .expr-kind .ensures .0) ∙ c .before .before .if1 .taken) _ _
+    (c .app-function .ensures .0) (c .before .app-argument .ensures .0) (c .before .app-argument .ensures .1)
 
 returns : tie.Need-returns Inv-loop μ-loop
 returns c =

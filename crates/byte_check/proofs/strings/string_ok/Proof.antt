@@ -19,14 +19,16 @@ returns-2 : tie.Need-returns-2
 returns-2 c =
     let at-string-end = c .before .before in
     let start = at-string-end .before .before .before .before in
-    λ ws. string-falls (over (start .args .bytes .now) (start .args .names .now) ws) (start .args .r) (at-string-end .string-end .result) (at-string-end .string-end .ensures .0) (c .before .if1 .left) _ _ (c .before .before .before .string-word .ensures .0) (start .pre .1) (c .if2 .taken)
+    λ ws. string-falls (over (start .args .bytes .now) (start .args .names .now) ws) (start .args .r) (at-string-end .string-end .result) (at-string-end .string-end .ensures .0)
+    (c .before .if1 .left) _ _ (c .before .before .before .string-word .ensures .0) (start .pre .1) (c .if2 .taken)
 
 returns-3 : tie.Need-returns-3
 returns-3 c =
     let at-string-end = c .before .before .before in
     let at-string-word = at-string-end .before in
     let start = at-string-word .before .before .before in
-    λ ws. string-ascii (over (start .args .bytes .now) (start .args .names .now) ws) (start .args .r) (at-string-end .string-end .result) (at-string-end .string-end .ensures .0) (c .before .before .if1 .left) _ _ (at-string-word .string-word .ensures .0) (start .pre .1) (c .before .if2 .left) _ (start .pre .2) (c .if3 .taken)
+    λ ws. string-ascii (over (start .args .bytes .now) (start .args .names .now) ws) (start .args .r) (at-string-end .string-end .result) (at-string-end .string-end .ensures .0)
+    (c .before .before .if1 .left) _ _ (at-string-word .string-word .ensures .0) (start .pre .1) (c .before .if2 .left) _ (start .pre .2) (c .if3 .taken)
 
 is-valid-requires : tie.Need-is-valid-requires
 is-valid-requires c κs =
@@ -38,7 +40,8 @@ returns-4 c =
     let at-string-end = c .before .before .before .before in
     let at-string-word = at-string-end .before in
     let start = at-string-word .before .before .before in
-    λ ws. string-is (over (start .args .bytes .now) (start .args .names .now) ws) (start .args .r) (at-string-end .string-end .result) (at-string-end .string-end .ensures .0) (c .before .before .before .if1 .left) _ _ (at-string-word .string-word .ensures .0) (start .pre .1) _ (c .before .before .if2 .left) (c .is-valid .ensures)
+    λ ws. string-is (over (start .args .bytes .now) (start .args .names .now) ws) (start .args .r) (at-string-end .string-end .result) (at-string-end .string-end .ensures .0)
+    (c .before .before .before .if1 .left) _ _ (at-string-word .string-word .ensures .0) (start .pre .1) _ (c .before .before .if2 .left) (c .is-valid .ensures)
 
 pub string-ok-spec : {M : Type 1} → statement M
 string-ok-spec =

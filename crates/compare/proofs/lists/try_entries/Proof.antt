@@ -53,7 +53,8 @@ returns c =
     let at-loop = at-loop-test .before in
     let start = at-loop .before .before .before .before in
     entry-stops (start .args .bytes .now) (start .args .names .now) (start .args .words .now) (start .args .t) (start .args .x) (start .args .y) (start .args .n) (at-loop .loop .i) _
-    (at-loop-test .loop-test .taken) _ _ (at-list-entry .list-entry .ensures .0) (c .before .before .before .list-entry2 .ensures .0) (at-loop .loop .inv .1) _ (c .before .before .try-level .ensures) (c .if1 .taken)
+    (at-loop-test .loop-test .taken) _ _ (at-list-entry .list-entry .ensures .0) (c .before .before .before .list-entry2 .ensures .0) (at-loop .loop .inv .1) _
+    (c .before .before .try-level .ensures) (c .if1 .taken)
 
 add-i : tie.Need-add-i Inv-loop μ-loop
 add-i c = omega arith
@@ -69,7 +70,8 @@ loop-again c =
     let start = at-loop .before .before .before .before in (
       omega arith,
       entry-agrees (start .args .bytes .now) (start .args .names .now) (start .args .words .now) (start .args .t) (start .args .x) (start .args .y) (start .args .n) (at-loop .loop .i) _
-          (at-loop-test .loop-test .taken) _ _ (at-list-entry .list-entry .ensures .0) (c .before .before .before .list-entry2 .ensures .0) true (sym (c .before .before .try-level .ensures .yes (c .if1 .left))) (at-loop .loop .inv .1) refl,
+          (at-loop-test .loop-test .taken) _ _ (at-list-entry .list-entry .ensures .0) (c .before .before .before .list-entry2 .ensures .0) true (sym
+          (c .before .before .try-level .ensures .yes (c .if1 .left))) (at-loop .loop .inv .1) refl,
     )
 
 returns-2 : tie.Need-returns-2 Inv-loop μ-loop

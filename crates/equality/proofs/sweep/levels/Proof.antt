@@ -72,7 +72,8 @@ add-lifted-rows c =
 
 lifted-rows-requires-2 : tie.Need-lifted-rows-requires-2 Inv-loop μ-loop
 lifted-rows-requires-2 c κs =
-    let start = c .before .before .before .before .before .before .before .before .before .before .before .before .before .before .before .before .before .before .before .before .before .before .before .before .before in
+    let start = c .before .before .before .before .before .before .before .before .before .before .before .before .before .before .before .before .before .before .before .before
+    .before .before .before .before .before in
     (start .pre .0, start .pre .1)
 
 same-length-4 : tie.Need-same-length-4 Inv-loop μ-loop

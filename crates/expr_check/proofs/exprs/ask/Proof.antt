@@ -125,7 +125,14 @@ unfolding exprFieldsOk depthBy looseBy exprKind
 returns-9 c =
     let start = c .before .before .before .before .before .before in
     let e = kind-is _ _ _ _ (start .pre .1) (c .before .before .match .keys9) in
-    λ bs k. rw (e, c .leaf3 .ensures, c .before .nat-ok .ensures (over bs (start .args .names .now) (start .args .words .now)) (start .pre .0 .of-names .strings) (k e), start .pre .1, start .pre .0 .of-names .strings)
+    λ bs k. rw (
+      e,
+      c .leaf3 .ensures,
+      c .before .nat-ok .ensures (over bs (start .args .names .now) (start .args .words .now)) (start .pre .0 .of-names .strings)
+          (k e),
+      start .pre .1,
+      start .pre .0 .of-names .strings,
+    )
 
 returns-10 : tie.Need-returns-10
 unfolding exprFieldsOk depthBy looseBy exprKind

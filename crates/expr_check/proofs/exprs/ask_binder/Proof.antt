@@ -16,7 +16,11 @@ unfolding exprFieldsOk depthBy looseBy
 returns c =
     let at-binder-ok = c .before .before in
     let start = at-binder-ok .before .before in
-    λ bs ns e. (rw (at-binder-ok .binder-ok .ensures, c .before .over-two .ensures, c .under-binder .ensures, start .pre .1, e), rw (at-binder-ok .binder-ok .ensures, c .before .over-two .ensures, c .under-binder .ensures, start .pre .1, e))
+    λ bs ns e. (
+      rw (at-binder-ok .binder-ok .ensures, c .before .over-two .ensures, c .under-binder .ensures, start .pre .1, e),
+      rw
+          (at-binder-ok .binder-ok .ensures, c .before .over-two .ensures, c .under-binder .ensures, start .pre .1, e),
+    )
 
 pub ask-binder-spec : {M : Type 1} → statement M
 ask-binder-spec =

@@ -59,7 +59,16 @@ returns c =
     let at-name-low = at-name-high .before in
     let at-name-prefix = at-name-low .before in
     let at-name-kind = at-name-prefix .before in
-    rw (← at-name-kind .name-kind .ensures .0, c .before .before .before .match .keys1, c .asked-name .ensures, c .before .both2 .ensures, c .before .before .both .ensures, at-name-prefix .name-prefix .ensures .0, at-name-low .name-low .ensures .0, at-name-high .name-high .ensures .0)
+    rw (
+      ← at-name-kind .name-kind .ensures .0,
+      c .before .before .before .match .keys1,
+      c .asked-name .ensures,
+      c .before .both2 .ensures,
+      c .before .before .both .ensures,
+      at-name-prefix .name-prefix .ensures .0,
+      at-name-low .name-low .ensures .0,
+      at-name-high .name-high .ensures .0,
+    )
 
 returns-2 : tie.Need-returns-2
 unfolding nameFieldsOk nameDepthBy nameKind
@@ -71,7 +80,19 @@ returns-2 c =
     let at-name-prefix = at-name-low .before in
     let at-name-kind = at-name-prefix .before in
     let start = at-name-kind .before .before .before in
-    rw (← at-name-kind .name-kind .ensures .0, at-match .match .keys2, c .asked-name2 .ensures, c .before .both4 .ensures, c .before .before .both3 .ensures, at-byte-at .byte-at .ensures .0, at-name-prefix .name-prefix .ensures .0, at-name-low .name-low .ensures .0, at-name-high .name-high .ensures .0, start .pre .strings)
+    rw (
+      ← at-name-kind .name-kind .ensures .0,
+      at-match .match .keys2,
+      c .asked-name2 .ensures,
+      c .before .both4 .ensures,
+      c .before .before .both3 .ensures,
+      at-byte-at .byte-at
+          .ensures .0,
+      at-name-prefix .name-prefix .ensures .0,
+      at-name-low .name-low .ensures .0,
+      at-name-high .name-high .ensures .0,
+      start .pre .strings,
+    )
 
 returns-3 : tie.Need-returns-3
 unfolding nameFieldsOk nameDepthBy nameKind

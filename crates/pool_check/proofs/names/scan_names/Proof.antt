@@ -65,7 +65,8 @@ returns-2 c =
     let start = at-loop .before .before .before in
     λ bs ws. bad-found (nameOk (over bs (start .args .names .now) ws)) _ _ _ (at-loop-test .loop-test .taken) _ refl (at-loop .loop .inv .2 bs ws)
     (name-deep (over bs (start .args .names .now) ws) (at-loop .loop .depths) (at-loop .loop .r) (at-ask-name .ask-name .result .depth) (at-loop .loop .inv .4) (at-loop .loop .inv .3 bs ws) _
-    (ap (λ (w : AskedName). w .right) (at-ask-name .ask-name .ensures)) (not-false _ (c .before .before .if1 .left)) (ap (λ (w : AskedName). w .depth) (at-ask-name .ask-name .ensures)) (c .if2 .taken))
+    (ap (λ (w : AskedName). w .right) (at-ask-name .ask-name .ensures)) (not-false _ (c .before .before .if1 .left)) (ap (λ (w : AskedName). w .depth)
+    (at-ask-name .ask-name .ensures)) (c .if2 .taken))
 
 cast-depths : tie.Need-cast-depths Inv-loop μ-loop
 cast-depths c = omega arith
@@ -92,11 +93,13 @@ loop-again c =
     let room : at-loop .loop .r < length (at-loop .loop .depths) = omega (arith, start .pre .1, start .pre .0 .names, at-loop .loop .inv .0, at-loop .loop .inv .1, at-loop-test .loop-test .taken) in
     let learnt : (bs ws : List ℕ) → NameLearnt (over bs (start .args .names .now) ws) (at-loop .loop .r) (at-ask-name .ask-name .result .depth) = λ bs
     ws. name-learnt (over bs (start .args .names .now) ws) (at-loop .loop .depths) (at-loop .loop .r) (at-ask-name .ask-name .result .depth) (at-loop .loop .inv .4) (at-loop .loop .inv .3 bs ws) _
-    (ap (λ (w : AskedName). w .right) (at-ask-name .ask-name .ensures)) (not-false _ (c .before .before .before .if1 .left)) (ap (λ (w : AskedName). w .depth) (at-ask-name .ask-name .ensures)) (c .before .if2 .left) in (
+    (ap (λ (w : AskedName). w .right) (at-ask-name .ask-name .ensures)) (not-false _ (c .before .before .before .if1 .left)) (ap (λ (w : AskedName). w .depth)
+    (at-ask-name .ask-name .ensures)) (c .before .if2 .left) in (
       omega arith,
       simp length-set (at-loop .loop .inv .1),
       λ bs ws. bad-step (nameOk (over bs (start .args .names .now) ws)) _ _ _ (at-loop-test .loop-test .taken) _ refl (at-loop .loop .inv .2 bs ws) (learnt bs ws .0),
-      λ bs ws. depths-more (at-loop .loop .depths) (λ (j : ℕ). nameDepth (nameAt (over bs (start .args .names .now) ws) j)) (at-loop .loop .r) (at-ask-name .ask-name .result .depth) room (at-loop .loop .inv .3 bs ws) (learnt bs ws .1),
+      λ bs ws. depths-more (at-loop .loop .depths) (λ (j : ℕ). nameDepth (nameAt (over bs (start .args .names .now) ws) j)) (at-loop .loop .r)
+          (at-ask-name .ask-name .result .depth) room (at-loop .loop .inv .3 bs ws) (learnt bs ws .1),
       below-more (λ (j : ℕ). nameFieldsOk (start .args .names .now) j (nameKind (nameWord (start .args .names .now) j 0)) ≡ true) (at-loop .loop .r)
           (at-loop .loop .inv .4) (learnt [] [] .2),
     )
