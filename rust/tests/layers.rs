@@ -208,16 +208,18 @@ fn a_variable_far_down_occurs() {
 }
 
 /// Rows that nothing names stand below the others: what goes over all rows meets them too.
-fn padded() -> Rows {
+fn padded(count: usize) -> Rows {
     let mut rows = Rows::default();
-    (0..50_000).for_each(|_| drop(rows.constant(2)));
+    for _ in 0..count {
+        rows.constant(2);
+    }
     rows
 }
 
 #[test]
 fn lambdas_without_names_over_doubling_types() {
-    for (leaf, shown) in [(0, "x"), (300, "_")] {
-        let mut rows = padded();
+    for (leaf, last) in [(0, "«»"), (300, "_")] {
+        let mut rows = padded(50_000);
         let (c, mut row) = (rows.constant(3), rows.doubling_types(17, 1)[0]);
         // the variable of the last of them, or one of none
         let var = rows.var(leaf);
@@ -226,7 +228,6 @@ fn lambdas_without_names_over_doubling_types() {
             row = rows.row(5, [0, 0, c, row, 0], &[c], Some(row), 0);
         }
         let listing = printed(rows.pool()).unwrap();
-        let last = if shown == "x" { "«»" } else { "_" };
         let names = listing.split_once(" :").unwrap().0.split_whitespace().collect::<Vec<_>>();
         assert_eq!((names.len(), names[0], names[1], names[200]), (201, "fun", "(_", last));
     }
@@ -236,8 +237,7 @@ fn lambdas_without_names_over_doubling_types() {
 fn groups_of_doubling_types() {
     // all of one type; the last of another one
     for (doublings, count, other) in [(17, 200, false), (17, 200, true), (60, 125, false)] {
-        let mut rows = padded();
-        rows.exprs.truncate(40_000);
+        let mut rows = padded(40_000);
         let types = rows.doubling_types(doublings, count + 1);
         let mut row = rows.constant(3);
         for k in (0..count as usize).rev() {

@@ -121,7 +121,7 @@ fn sweep_all(
     compare_all(bytes, names, words, t, a, b, d)
 }
 
-// Sixteen times as many steps are tried while they are fewer than the rows that a sweep would go over.
+// Sixteen times as many steps are tried once more, if a sweep would go over more rows than were tried.
 fn settle(
     bytes: &[u8],
     names: &[u32],

@@ -135,8 +135,8 @@ fn sweep_all(bytes: &[u8], names: &[u32], words: &[u32], t: Tables, r: usize, i:
     search(bytes, names, words, t, r, i)
 }
 
-// Most questions are answered in few steps. Where they are not, sixteen times as many are tried while they are fewer than the rows that a
-// sweep would go over.
+// Most questions are answered in few steps. Where they are not, sixteen times as many are tried once more, if a sweep would go over more
+// rows than were tried.
 fn settle(
     bytes: &[u8],
     names: &[u32],
