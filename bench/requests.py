@@ -284,6 +284,9 @@ def pools():
     yield "8 groups of 200 lambdas of types `fun (x x : T) => c` nested 17 deep, rows of their own", group_of_doublings(17, 200, 8)
     yield "4 groups of 125 lambdas of such types nested 60 deep", group_of_doublings(60, 125, 4)
     yield "two constants with lists of 65,000 levels `max l l` 62 deep, separate rows", lists_of_towers(65000)
+    for letter, marks in (("x", "plain"), (" ", "in marks")):
+        long = ("const", (letter * (1 << 24),) * 63, ())
+        yield expression("a constant applied to itself 255 times, its name 63 components of 16 MiB, %s" % marks, apply(long, *[long] * 255))
 
 
 # ---- the deepest trees

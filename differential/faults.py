@@ -31,6 +31,9 @@ FAULTS = (
     ("projection index not raised", "str(e.fields[1] + 1)", "str(e.fields[1])"),
     ("anonymous binders taken", "binders[n].name != () and ", ""),
     ("every anonymous binder prints _", "b.name == () and not b.occurs else", "b.name == () else"),
+    ("no component in marks", "return component if is_plain(component) else", "return component if True else"),
+    ("the anonymous name bare", 'return "«»".encode()', 'return b""'),
+    ("marks as texts of their own", "return part(name_text(name))", 'return part(name_text(name)) if name else join("«", "", "»")'),
 )
 
 

@@ -340,18 +340,25 @@ def is_plain(component):
     return s == "_@" or s == "" or (is_start(s[0]) and all(is_rest(c) for c in s[1:]))
 
 
+def component_text(component):
+    '''"Each string component that is not plain is to be wrapped by itself" (document 02, P1)'''
+    if isinstance(component, int):
+        return str(component).encode()
+    return component if is_plain(component) else "«".encode() + component + "»".encode()
+
+
 def name_text(name):
-    '''"Components are joined by "."; none is put after an empty prefix text."'''
+    '''"Components are joined by "."; none is put after an empty prefix text." "The anonymous name stays «»" (P1).'''
+    if name == ():
+        return "«»".encode()
     text = b""
     for c in name:
-        text = (text + b"." if text else b"") + (c if isinstance(c, bytes) else str(c).encode())
+        text = (text + b"." if text else b"") + component_text(c)
     return text
 
 
 def name_doc(name):
-    '''"« and », two more, stand round it if it is anonymous or some string component is not plain."'''
-    if name == () or any(isinstance(c, bytes) and not is_plain(c) for c in name):
-        return join("«", name_text(name), "»")
+    '''"A name with its marks is then one text of the document." (P1)'''
     return part(name_text(name))
 
 

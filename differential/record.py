@@ -187,7 +187,7 @@ def make(program, prints, documents, seed):
         found = PoolRecord(area, words, list(asked(program, area, words, asks)))
         crosscheck(found)
         out = []
-        for i, p in enumerate(found.prints):
+        for i, p in enumerate(found.prints[:prints - kept]):
             keep = left > 0 and p.counts[0] <= SMALL_DOCUMENT and (number < 30 or (i + number) % 6 == 0)
             left -= keep
             out.append(p if keep else p._replace(rows=None, text=None))
@@ -226,8 +226,9 @@ class Figures:
 
     def name(self, name, reached):
         reached.add("name: " + name_shape(name))
-        if name != () and len(list(model.name_doc(name))) > 1:
-            reached.add("name: quoted, not anonymous")
+        odd = [isinstance(c, bytes) and not model.is_plain(c) for c in name]
+        if any(odd):
+            reached.add("name: quoted" if all(odd) else "name: quoted in part")
 
     def level(self, level, reached):
         reached.add("level: " + ("zero", "successor", "max", "imax", "parameter")[level.kind])

@@ -170,6 +170,22 @@ def prints():
     yield "equal types nested 40 deep", called(doubled(40), 7 * 16384, 65536, 99999), (0, 0)
 
 
+def names():
+    """A name with its marks is one text: @a.«b c» has four rows (two texts, a join, the group round all), 10 text bytes."""
+    marked = ("const", ("a", "b c"), ())
+    yield "a name in areas just long enough", called(marked, 7 * 4, 10, 10), (0, 0)
+    for text in (3, 4, 9):
+        yield "room for %d bytes, none for the rest of a name" % text, called(marked, 7 * 4, text, 10), (21, 1)
+    yield "no room for a name's row", called(marked, 7 * 1, 10, 10), (20, 1)
+    yield "no room for the join behind a name", called(marked, 7 * 2, 10, 10), (20, 2)
+    yield "no room for a name's row, nor for its last byte", called(marked, 7 * 1, 9, 10), (21, 1)
+    yield "the anonymous name", called(("const", (), ()), 7 * 4, 5, 5), (0, 0)
+    yield "no room for the anonymous name's last byte", called(("const", (), ()), 7 * 4, 4, 5), (21, 1)
+    for more, expected in ((0, (0, 0)), (1, (8, 1))):
+        long = ("const", ("b " + "c" * (65529 + more),), ())
+        yield "%s with @ and marks" % ("65,536 bytes", "65,537 bytes")[more], called(long, 7 * 4, 65536, 65536), expected
+
+
 GIVEN = [(0, 0, 1, 1, 1, 1, 0), (2, 1, 0, 1, 1, 0, 1), (1, 0, 0, 3, 2, 1, 1), (0, 1, 2, 1, 2, 2, 0), (1, 0, 0, 5, 4, 1, 1),
          (3, 64, 0, 6, 4, 1, 1), (4, 0, 0, 7, 4, 1, 1)]  # G(N(("a" | "bc")))
 
@@ -208,7 +224,7 @@ def documents():
 
 
 def cases():
-    for part in (counts_and_strings, names_levels_lists, expressions_declarations, prints, documents):
+    for part in (counts_and_strings, names_levels_lists, expressions_declarations, prints, names, documents):
         yield from part()
 
 

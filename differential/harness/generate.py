@@ -74,10 +74,32 @@ assert L.count(old) == 1
 write('src/level.rs', L.replace(old, new))
 
 P = open('published/pretty_printer.rs').read()
-old = '''    let idx = s.partition_point(f);
-'''
-new = '''    crate::probe::note(s, &f); // HARNESS: records whether `s` is partitioned; the only line that is not published
+EDITS = [('''    let idx = s.partition_point(f);
+''', '''    crate::probe::note(s, &f); // HARNESS: records whether `s` is partitioned
     let idx = s.partition_point(f);
-'''
-assert P.count(old) == 1
-write('src/pretty_printer.rs', P.replace(old, new))
+'''), ('''        let doc = self.name_to_string(n).as_str().into();
+        if self.should_be_escaped(n) {
+            DocPtr::from("«").concat(doc).concat(DocPtr::from("»"))
+        } else {
+            doc
+        }
+''', '''        // HARNESS (P1): the anonymous name is «», and a name with its marks is one text
+        if n == self.ctx.anonymous() {
+            DocPtr::from("«»")
+        } else {
+            self.name_to_string(n).as_str().into()
+        }
+'''), ('''                out.push_str(self.ctx.read_string(sfx).as_ref());
+''', '''                // HARNESS (P1): each string component that `ok_str` refuses is wrapped by itself
+                if self.ok_str(sfx) {
+                    out.push_str(self.ctx.read_string(sfx).as_ref());
+                } else {
+                    out.push('«');
+                    out.push_str(self.ctx.read_string(sfx).as_ref());
+                    out.push('»');
+                }
+''')]
+for old, new in EDITS:
+    assert P.count(old) == 1, old
+    P = P.replace(old, new)
+write('src/pretty_printer.rs', P)

@@ -28,8 +28,8 @@ impl<'a> Part<'a> {
         }
     }
 
-    /// The component as listings have it.
-    fn listed(self) -> Cow<'a, [u8]> {
+    /// The component as listings have it, without its marks « ».
+    fn bare(self) -> Cow<'a, [u8]> {
         match self {
             Part::Text(bytes) => Cow::Borrowed(bytes),
             Part::Number(n) => Cow::Owned(n.to_string().into_bytes()),
@@ -45,11 +45,41 @@ fn pieces<'a>(parts: impl IntoIterator<Item = Part<'a>>) -> Vec<Cow<'a, [u8]>> {
         if !empty {
             pieces.push(Cow::Borrowed(&b"."[..]));
         }
-        let piece = part.listed();
+        let piece = part.bare();
         empty = empty && piece.is_empty();
         pieces.push(piece);
     }
     pieces
+}
+
+/// Is this a name's text as listings have it? Each string component may have its marks « » or not, and so may a name that is one number.
+fn is_listed(parts: &[Part<'_>], name: &str) -> bool {
+    if parts.is_empty() {
+        return name.is_empty() || name == "«»";
+    }
+    // what may be left of the name after the components so far: as many ways as marks may have been passed
+    let (mut rests, mut empty) = (vec![name.as_bytes()], true);
+    for part in parts {
+        if !empty {
+            rests = rests.iter().filter_map(|rest| rest.strip_prefix(b".")).collect();
+        }
+        let (bare, marked) = (part.bare(), matches!(part, Part::Text(_)) || parts.len() == 1);
+        empty = empty && bare.is_empty();
+        rests = rests.iter().flat_map(|rest| [rest.strip_prefix(&bare[..]), after_marked(rest, &bare).filter(|_| marked)]).flatten().collect();
+        rests.dedup();
+    }
+    rests.iter().any(|rest| rest.is_empty())
+}
+
+fn after_marked<'a>(rest: &'a [u8], text: &[u8]) -> Option<&'a [u8]> {
+    rest.strip_prefix("«".as_bytes())?.strip_prefix(text)?.strip_prefix("»".as_bytes())
+}
+
+/// A name's text without the marks that stand where components start and end.
+fn without_marks(name: &str) -> String {
+    let opened = |part| str::strip_prefix(part, '«').unwrap_or(part);
+    let bare = |part| str::strip_suffix(part, '»').unwrap_or(part);
+    name.split('.').map(opened).map(bare).collect::<Vec<_>>().join(".")
 }
 
 impl Pool {
@@ -78,13 +108,9 @@ impl Pool {
         self.declar_parts(row).map(pieces)
     }
 
-    /// Is this the name of a declaration row as listings have it, without the marks « »?
+    /// Is this the name of a declaration row as listings have it, with the marks « » or without them?
     pub fn declar_has_name(&self, row: u32, name: &str) -> bool {
-        let Some(pieces) = self.declar_pieces(row) else {
-            return false;
-        };
-        let rest = pieces.iter().try_fold(name.as_bytes(), |rest, piece| rest.strip_prefix(&piece[..]));
-        rest.is_some_and(<[u8]>::is_empty)
+        self.declar_parts(row).is_some_and(|parts| is_listed(&parts, name))
     }
 
     /// Has a declaration row these very components?
@@ -163,8 +189,10 @@ impl<'a> DeclarNames<'a> {
 
     /// The rows of all declarations of a name, rising: as a listing shows it, with the marks « » or without them, or as it is typed.
     pub fn find(&self, asked: &str) -> Vec<u32> {
-        let bare = asked.strip_prefix('«').and_then(|a| a.strip_suffix('»')).unwrap_or(asked);
-        let mut rows = self.having(&[Cow::Borrowed(bare.as_bytes())], |row| self.pool.declar_has_name(row, bare));
+        let mut rows = Vec::new();
+        for text in [asked, &without_marks(asked)] {
+            rows.extend(self.having(&[Cow::Borrowed(text.as_bytes())], |row| self.pool.declar_has_name(row, asked)));
+        }
         if let Ok(name) = names::parse(asked) {
             rows.extend(self.having(&pieces(name.iter().map(Part::of)), |row| self.pool.declar_is(row, &name)));
         }

@@ -26,7 +26,7 @@ fn assert_print(pool: &Pool, print: &Print) {
 #[test]
 fn replay() {
     let corpus = recorded::read();
-    assert_eq!((corpus.len(), corpus.iter().map(|r| r.prints.len()).sum::<usize>()), (573, 4500));
+    assert_eq!((corpus.len(), corpus.iter().map(|r| r.prints.len()).sum::<usize>()), (576, 4500));
     with_stack(|| {
         for recorded in &corpus {
             assert_eq!(recorded.pool.check(), Ok(()));

@@ -1,6 +1,50 @@
 //! Declarations found by their names.
 use tilusorgu::text::{pack, Sharing};
-use tilusorgu::{DeclarNames, Pool};
+use tilusorgu::{DeclarNames, Pool, Sizes};
+
+/// A name copied from a listing finds its declaration, and no other one that is listed otherwise.
+#[test]
+fn as_it_is_listed() {
+    let typed = [
+        "_",
+        "«_»",
+        "«»",
+        "a.«».«b c»",
+        "a»b",
+        "«a b».c",
+        "«a b».5",
+        "«a b.5»",
+        "5.«x y»",
+        "«a.b»",
+        "a.b",
+        "α.«ω»",
+        "«».a",
+        "«a«b».x",
+        "_@",
+        "«_@x»",
+        "«\u{3bb}».«5».5",
+    ];
+    let text: String = typed.iter().map(|name| format!("(axiom {name} @C)")).collect();
+    let pool = pack(&text, Sharing::Shared).unwrap().pool;
+    let names = DeclarNames::new(&pool);
+    let listed = |row: u32| {
+        let listing = pool.list_declar(row, Sizes::default()).unwrap().text;
+        listing.strip_prefix("axiom ").and_then(|rest| rest.strip_suffix(" : @C")).unwrap().to_string()
+    };
+    for row in 0..typed.len() as u32 {
+        let found = names.find(&listed(row));
+        assert!(found.contains(&row), "{}", listed(row));
+        // a name without marks is also one whose marks are left out; «» and _ are also typed
+        let marked = listed(row).contains('«') && listed(row) != "«»";
+        assert!(!marked || found.iter().all(|&other| listed(other) == listed(row)), "{}", listed(row));
+    }
+    // what is listed packs to the same name, but for the anonymous one, _, empty components and » in a component
+    for row in 5..typed.len() as u32 {
+        let again = pack(&format!("(axiom {} @C)", listed(row)), Sharing::Shared).unwrap().pool;
+        assert_eq!(again.list_declar(0, Sizes::default()).unwrap().text, format!("axiom {} : @C", listed(row)));
+    }
+    assert_eq!(["«a b».5", "a b.5", "«a b.5»"].map(|name| names.find(name).len()), [1, 2, 1]);
+}
 
 /// A pass over all declarations for each of these names would take some minutes.
 #[test]

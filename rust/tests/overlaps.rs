@@ -168,3 +168,19 @@ fn names_that_no_listing_shows() {
         }
     });
 }
+
+/// f applied to 255 constants, their names 63 components of the whole area each: after the refusal no component is read.
+#[test]
+fn names_that_no_document_holds() {
+    let mut words = vec![1, 64, 0, 1, 0, 256, 0, 0, AREA, 0, 0, 0, 0];
+    words.extend((0..63).flat_map(|prefix| [1, prefix, 0, 0]));
+    words.extend([0, 0, 2, 63, 0, 0, 0, 0, 1, 0]);
+    words.extend((1..256).flat_map(|row| [3, row - 1, 0, 0, 0, 0, row + 1, 0]));
+    for (byte, mark) in [(b'x', "plain"), (b' ', "in marks")] {
+        let (bytes, words) = (vec![byte; AREA as usize], words.clone());
+        let (send, receive) = mpsc::channel();
+        std::thread::spawn(move || send.send(Pool { bytes, words }.list_expr(255, Sizes::default()).map(|listing| listing.text)));
+        let answer = receive.recv_timeout(Duration::from_secs(10)).expect("an answer within ten seconds");
+        assert_eq!(answer, Err(Refusal { number: 8, place: 1 }), "{mark}");
+    }
+}

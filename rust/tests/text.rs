@@ -1,6 +1,6 @@
 //! The text form: what its forms mean, by what is listed, and what is said of mistakes.
 use tilusorgu::text::{pack, Sharing};
-use tilusorgu::{Pool, Sizes, Table};
+use tilusorgu::{DeclarNames, Pool, Sizes, Table};
 
 /// The first declaration's listing, the same from shared and from separate rows.
 fn listed(text: &str) -> String {
@@ -16,7 +16,7 @@ fn listed(text: &str) -> String {
 fn declarations() {
     assert_eq!(listed("(def k.{u} (forall (a : (Sort u)) (Sort u)) (fun (a : (Sort u)) a))"), "def k.{u} (a : Sort u) : Sort u := a");
     assert_eq!(listed("(quotient k @C)"), "Quotient primitive k : @C");
-    assert_eq!(listed("(recursor a.«b c».7 @C)"), "recursor «a.b c.7» : @C");
+    assert_eq!(listed("(recursor a.«b c».7 @C)"), "recursor a.«b c».7 : @C");
     assert_eq!(listed("(opaque k (-> @A @B) @c)"), "opaque k : @A → @B := @c");
 }
 
@@ -63,8 +63,10 @@ fn names_of_declarations() {
         let row = row as u32;
         assert_eq!(pool.declar_title(row, 100).as_deref(), Some(name));
         assert!(pool.declar_has_name(row, name) && !pool.declar_has_name(row, "a") && !pool.declar_has_name(row, "a.b c.5."));
-        let printed = pool.list_declar(row, Sizes::default()).unwrap().text.replace(['«', '»'], "");
-        assert_eq!(printed, format!("axiom {name} : @C"));
+        let printed = pool.list_declar(row, Sizes::default()).unwrap().text;
+        let listed = printed.strip_prefix("axiom ").and_then(|p| p.strip_suffix(" : @C")).unwrap();
+        assert_eq!(listed.replace(['«', '»'], ""), name);
+        assert!(pool.declar_has_name(row, listed) && DeclarNames::new(&pool).find(listed).contains(&row));
     }
     assert_eq!(pool.declar_title(1, 4).as_deref(), Some("a.b .."));
     assert!(pool.declar_title(5, 100).is_none() && !pool.declar_has_name(5, ""));

@@ -1,17 +1,17 @@
 -- A print's document keeps 01's limits on blanks and nests, so its rows are accepted by the row rules of 9.
 use Prim.Native.Nat.{ℕ, zero, suc, _+_, _≤_}
 use native.Mathlib.Omega.{arith}
-use mathlib.Core.Bool.{Bool, true, false, _&&_, _||_, not, cond}
+use mathlib.Core.Bool.{Bool, true, false, _&&_, not, cond}
 use mathlib.Core.List.{List, [], _∷_, map}
 use mathlib.Core.Path.{_≡_, refl}
 use lib.Dec.{ltb}
 use lib.ListN.{length, take, drop}
 use Rattle.document.specs.Stored.{Fine}
-use Rattle.document.specs.Walk.{Marked, textᵐ, nestᵐ, unmarked}
+use Rattle.document.specs.Walk.{Marked, nestᵐ, unmarked}
 use Rattle.pool.specs.Tree.{Name, Level, zeroˡ, succˡ, maxˡ, imaxˡ, paramˡ, Expr, var, sort, const, app, pi, lam, letᵉ, proj, nat, str, Declar, typed, valued}
 use Rattle.pool.specs.Tree.{lift, depth}
 use Rattle.pieces.specs.Docs.{_⊹_, quoted, line, G, Parenable, withInner, under, tile, tileFrom, numberDoc, opening, closing}
-use Rattle.names.specs.Names.{nameDoc, nameText, isAnonymous, hasOdd}
+use Rattle.names.specs.Names.{nameDoc, isAnonymous}
 use Rattle.levels.specs.Levels.{plus, maxPar, succsPar, levelPar, sortDoc, levelsDoc}
 use Rattle.binders.specs.Runs.{runs, leading, following}
 use Rattle.binders.specs.Binders.{
@@ -69,12 +69,8 @@ fine-map f h [] = tt
 fine-map f h (x ∷ xs) = (h x, fine-map f h xs)
 
 fine-name : (n : Name) → Fineᵐ (nameDoc n)
-unfolding nameDoc quoted unmarked Fine
-fine-name n = by (isAnonymous n || hasOdd n)
-  where
-    by : (b : Bool) → Fineᵐ (cond b (quoted "«" ⊹ textᵐ (nameText n) ⊹ quoted "»") (textᵐ (nameText n)))
-    by true = ((tt, tt), tt)
-    by false = tt
+unfolding nameDoc unmarked Fine
+fine-name n = tt
 
 -- ---- levels
 

@@ -188,7 +188,7 @@ fn put_sort(
     w: usize,
     r: usize,
 ) -> Sink
-    requires { ⌜ (Ready (now bytes) (now names) (now words) t) × (r < L (now words)) × (w < 42) ⌝ }
+    requires { ⌜ (Ready (now bytes) (now names) (now words) t) × (r < L (now words)) × (w < 41) ⌝ }
     ensures { λ v. ⌜ Leaves rows text s v (emit (quoted (wordAt w) ⊹ quoted " " ⊹ under 1024
         (levelPar (levelAt (lent bytes names words) r)))) ⌝ }
 {

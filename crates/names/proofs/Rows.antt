@@ -1,14 +1,14 @@
 -- What the code reads off a name row.
 use Prim.Native.Nat.{ℕ, zero, suc, _+_, _*_, _^_, _<_, _≤_}
 use native.Mathlib.Omega.{arith}
-use mathlib.Core.Bool.{Bool, true, false, not}
+use mathlib.Core.Bool.{Bool, true, false}
 use mathlib.Core.List.{List}
 use mathlib.Core.Path.{_≡_, refl, sym, ap, _∙_}
 use lib.ListN.{length}
 use lib.Dec.{ltb, leb, eqb}
 use borrow.Author.Tests.{ltb-true, leb-true}
 use Rattle.utf8.specs.Quoted.{bytes}
-use Rattle.utf8.specs.Letterlike.{plain, sameBytes}
+use Rattle.utf8.specs.Letterlike.{sameBytes}
 use Rattle.pool.specs.declared.tables.Tables.{Tables}
 use Rattle.pool.specs.Tables.{S, N, stringWord, nameWord, stringAt}
 use Rattle.pool.specs.Tree.{anonymous, string, number}
@@ -20,8 +20,8 @@ use Rattle.pool.proofs.RowUnfolds as rows
 use Rattle.pool.proofs.RowUnfolds.{NameRow, is-anonymous, is-string, is-number}
 use Rattle.pool.specs.Ready.{Ready}
 use Rattle.pieces.specs.Docs.{digits}
-use Rattle.names.specs.Names.{isAnonymous}
-use Rattle.names.specs.Components.{prefixOf, component, isNumber, isOdd, isHyg, stringIn}
+use Rattle.names.specs.Names.{isAnonymous, escaped}
+use Rattle.names.specs.Components.{prefixOf, component, isNumber, isHyg, stringIn}
 
 -- a string row's bytes are within the byte area
 abbrev pub Fits : List ℕ → List ℕ → ℕ → Type 0
@@ -61,18 +61,6 @@ module _ (bs ns ws : List ℕ) (r : ℕ) where
   fits-by (is-string k l f e) q = f
   fits-by (is-number k l e) q = absurd (omega arith)
 
-  pub odd-not : NameRow (over bs ns ws) r → (nameWord ns r 0 ≡ 1 → ⊥) → false ≡ isOdd (nameAt (over bs ns ws) r)
-  unfolding isOdd
-  odd-not (is-anonymous k e) q = rw e
-  odd-not (is-string k l f e) q = absurd (q k)
-  odd-not (is-number k l e) q = rw e
-
-  pub odd-is : NameRow (over bs ns ws) r → nameWord ns r 0 ≡ 1 → not (plain (stringIn bs ns (nameWord ns r 2))) ≡ isOdd (nameAt (over bs ns ws) r)
-  unfolding isOdd stringAt
-  odd-is (is-anonymous k e) q = absurd (omega arith)
-  odd-is (is-string k l f e) q = rw e
-  odd-is (is-number k l e) q = absurd (omega arith)
-
   pub hyg-not : NameRow (over bs ns ws) r → (nameWord ns r 0 ≡ 1 → ⊥) → false ≡ isHyg (nameAt (over bs ns ws) r)
   unfolding isHyg
   hyg-not (is-anonymous k e) q = rw e
@@ -85,7 +73,7 @@ module _ (bs ns ws : List ℕ) (r : ℕ) where
   hyg-is (is-string k l f e) q = rw e
   hyg-is (is-number k l e) q = absurd (omega arith)
 
-  pub component-string : NameRow (over bs ns ws) r → nameWord ns r 0 ≡ 1 → stringIn bs ns (nameWord ns r 2) ≡ component (nameAt (over bs ns ws) r)
+  pub component-string : NameRow (over bs ns ws) r → nameWord ns r 0 ≡ 1 → escaped (stringIn bs ns (nameWord ns r 2)) ≡ component (nameAt (over bs ns ws) r)
   unfolding component stringAt
   component-string (is-anonymous k e) q = absurd (omega arith)
   component-string (is-string k l f e) q = rw e

@@ -1,21 +1,21 @@
 -- Laws of names' texts: a name's text from that of the name before its last component.
 use Prim.Native.Nat.{ℕ, _+_, _≤_}
 use native.Mathlib.Omega.{arith}
-use mathlib.Core.Bool.{Bool, true, false, _&&_, _||_, cond}
-use mathlib.Core.List.{List, [], _∷_}
+use mathlib.Core.Bool.{Bool, true, false, _&&_, cond}
+use mathlib.Core.List.{List, [], _∷_, _++_}
 use mathlib.Core.Path.{_≡_, refl, sym, ap, _∙_}
 use lib.ListN.{length, getD, set}
 use lib.Dec.{ltb, eqb}
 use borrow.Author.Tests.{eq-eqb, eqb-true}
-use Rattle.utf8.specs.Quoted.{bytes}
-use Rattle.utf8.specs.Letterlike.{sameBytes}
+use Rattle.utf8.specs.Quoted.{bytes, encode}
+use Rattle.utf8.specs.Letterlike.{plain, sameBytes}
 use Rattle.document.specs.declared.sink.Sink.{Sink}
-use Rattle.document.specs.Sink.{State, sinkOf, stoppedAt, putByte, putBytes, putText, putJoin, emit}
+use Rattle.document.specs.Sink.{State, sinkOf, stoppedAt, putByte, putBytes, putText, emit}
 use Rattle.document.specs.Sink.State.{state}
 use Rattle.pool.specs.Tree.{Name, anonymous, string, number}
-use Rattle.pieces.specs.Docs.{quoted, digits}
-use Rattle.names.specs.Names.{dotted, nameText, isAnonymous, hasOdd, nameDoc, isHygienic}
-use Rattle.names.specs.Components.{prefixOf, component, isNumber, isOdd, isHyg, putDot}
+use Rattle.pieces.specs.Docs.{digits}
+use Rattle.names.specs.Names.{escaped, dotted, joined, isAnonymous, nameText, nameDoc, isHygienic}
+use Rattle.names.specs.Components.{prefixOf, component, isNumber, isHyg, putDot}
 use Rattle.pieces.proofs.Emitting.{byte-stopped, bytes-stopped, bytes-append}
 use Rattle.pieces.proofs.WordTable.{same-eq}
 
@@ -23,24 +23,6 @@ absurd-bool : {P : Type 0} → _≡_ {A = Bool} true false → P
 absurd-bool q = absurd (let z : _≡_ {A = ℕ} 0 1 = cc in omega arith)
 
 -- ---- components
-
-pub odd-none : (n : Name) → isAnonymous n ≡ true → false ≡ hasOdd n
-unfolding isAnonymous hasOdd
-odd-none anonymous a = refl
-odd-none (string p s) a = absurd-bool (sym a)
-odd-none (number p k) a = absurd-bool (sym a)
-
-pub odd-found : (n : Name) → isOdd n ≡ true → true ≡ hasOdd n
-unfolding isOdd hasOdd
-odd-found anonymous o = absurd-bool (sym o)
-odd-found (string p s) o = rw o
-odd-found (number p k) o = absurd-bool (sym o)
-
-pub odd-on : (n : Name) → isAnonymous n ≡ false → isOdd n ≡ false → hasOdd (prefixOf n) ≡ hasOdd n
-unfolding isAnonymous isOdd hasOdd prefixOf
-odd-on anonymous a o = absurd-bool a
-odd-on (string p s) a o = rw o
-odd-on (number p k) a o = refl
 
 pub number-named : (n : Name) → isNumber n ≡ true → isAnonymous n ≡ false
 unfolding isNumber isAnonymous
@@ -118,29 +100,56 @@ dot-on (b ∷ p) c st = ap (putBytes c) (go (eqb (sinkOf x .text) (sinkOf st .te
     go true e = sym (byte-stopped 46 x (not-grown b p st (eqb-true _ _ e)))
     go false e = refl
 
-pub text-none : (n : Name) (st : State) → isAnonymous n ≡ true → st ≡ putBytes (nameText n) st
-unfolding isAnonymous nameText putBytes
-text-none anonymous st a = refl
-text-none (string p s) st a = absurd-bool (sym a)
-text-none (number p k) st a = absurd-bool (sym a)
+pub joined-none : (n : Name) (st : State) → isAnonymous n ≡ true → st ≡ putBytes (joined n) st
+unfolding isAnonymous joined putBytes
+joined-none anonymous st a = refl
+joined-none (string p s) st a = absurd-bool (sym a)
+joined-none (number p k) st a = absurd-bool (sym a)
 
-pub text-on : (n : Name) (st : State) → isAnonymous n ≡ false
-    → putBytes (component n) (putDot (sinkOf st .text) (putBytes (nameText (prefixOf n)) st)) ≡ putBytes (nameText n) st
-unfolding isAnonymous component nameText prefixOf
-text-on anonymous st a = absurd-bool a
-text-on (string p s) st a = dot-on (nameText p) s st
-text-on (number p k) st a = dot-on (nameText p) (digits k) st
+pub joined-on : (n : Name) (st : State) → isAnonymous n ≡ false
+    → putBytes (component n) (putDot (sinkOf st .text) (putBytes (joined (prefixOf n)) st)) ≡ putBytes (joined n) st
+unfolding isAnonymous component joined prefixOf
+joined-on anonymous st a = absurd-bool a
+joined-on (string p s) st a = dot-on (joined p) (escaped s) st
+joined-on (number p k) st a = dot-on (joined p) (digits k) st
+
+dot-stopped : (from : ℕ) (st : State) → eqb (sinkOf st .stop) 0 ≡ false → putDot from st ≡ st
+unfolding putDot
+dot-stopped from st e = go (eqb (sinkOf st .text) from)
+  where
+    go : (b : Bool) → cond b st (putByte 46 st) ≡ st
+    go true = refl
+    go false = byte-stopped 46 st e
+
+-- after a refusal the last component adds nothing
+pub joined-stopped : (n p : Name) (st after : State) → isAnonymous n ≡ false → p ≡ prefixOf n → after ≡ putBytes (joined p) st
+    → eqb (sinkOf after .stop) 0 ≡ false → after ≡ putBytes (joined n) st
+joined-stopped n p st after a q h e =
+    sym (ap (putBytes (component n)) (dot-stopped (sinkOf st .text) after e) ∙ bytes-stopped (component n) after e)
+    ∙ ap (λ (x : State). putBytes (component n) (putDot (sinkOf st .text) x)) (h ∙ ap (λ (x : Name). putBytes (joined x) st) q)
+    ∙ joined-on n st a
+
+-- ---- marks
+
+pub escaped-plain : (s : List ℕ) (st : State) → plain s ≡ true → putBytes s st ≡ putBytes (escaped s) st
+unfolding escaped
+escaped-plain s st e = rw e
+
+pub escaped-odd : (s : List ℕ) (st : State) → plain s ≡ false
+    → putBytes (194 ∷ 187 ∷ []) (putBytes s (putBytes (194 ∷ 171 ∷ []) st)) ≡ putBytes (escaped s) st
+unfolding escaped bytes encode
+escaped-odd s st e =
+    rw e (sym (bytes-append s (194 ∷ 187 ∷ []) (putBytes (194 ∷ 171 ∷ []) st)) ∙ sym (bytes-append (194 ∷ 171 ∷ []) (s ++ (194 ∷ 187 ∷ [])) st))
 
 -- ---- the document
 
-pub doc-plain : (n : Name) (st : State) → isAnonymous n || hasOdd n ≡ false → putText (nameText n) st ≡ emit (nameDoc n) st
-unfolding nameDoc emit
-doc-plain n st e = rw e
+pub doc-anonymous : (n : Name) (st : State) → isAnonymous n ≡ true → putText (bytes "«»") st ≡ emit (nameDoc n) st
+unfolding nameDoc nameText emit
+doc-anonymous n st e = rw e
 
-pub doc-escaped : (n : Name) (st : State) → isAnonymous n || hasOdd n ≡ true
-    → putJoin (putText (bytes "»") (putJoin (putText (nameText n) (putText (bytes "«") st)))) ≡ emit (nameDoc n) st
-unfolding nameDoc emit quoted
-doc-escaped n st e = rw e
+pub doc-joined : (n : Name) (st : State) → isAnonymous n ≡ false → putText (joined n) st ≡ emit (nameDoc n) st
+unfolding nameDoc nameText emit
+doc-joined n st e = rw e
 
 -- ---- "_hyg"
 

@@ -1,15 +1,16 @@
 -- The last component of a name, and the name before it: what the code reads off one row.
 use Prim.Native.Nat.{ℕ}
-use mathlib.Core.Bool.{Bool, true, false, not, cond}
+use mathlib.Core.Bool.{Bool, true, false, cond}
 use mathlib.Core.List.{List, []}
 use lib.Dec.{eqb}
 use Rattle.utf8.specs.Quoted.{bytes}
-use Rattle.utf8.specs.Letterlike.{plain, sameBytes}
+use Rattle.utf8.specs.Letterlike.{sameBytes}
 use Rattle.document.specs.Sink.{State, sinkOf, putByte}
 use Rattle.pool.specs.Tables.{stringAt}
 use Rattle.pool.specs.Tree.{Name, anonymous, string, number}
 use Rattle.pool.specs.Areas.{over}
 use Rattle.pieces.specs.Docs.{digits}
+use Rattle.names.specs.Names.{escaped}
 
 unfoldable pub prefixOf : Name → Name
 prefixOf anonymous = anonymous
@@ -18,18 +19,13 @@ prefixOf (number p n) = p
 
 unfoldable pub component : Name → List ℕ
 component anonymous = []
-component (string p s) = s
+component (string p s) = escaped s
 component (number p n) = digits n
 
 unfoldable pub isNumber : Name → Bool
 isNumber anonymous = false
 isNumber (string p s) = false
 isNumber (number p n) = true
-
-unfoldable pub isOdd : Name → Bool
-isOdd anonymous = false
-isOdd (string p s) = not (plain s)
-isOdd (number p n) = false
 
 unfoldable pub isHyg : Name → Bool
 isHyg anonymous = false

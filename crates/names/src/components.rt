@@ -17,6 +17,7 @@ use pool::tables::string_word;
 use utf8::letterlike::ok_str;
 ghost use mathlib.Core.Path.{_≡_};
 ghost use mathlib.Core.Bool.{false};
+ghost use mathlib.Core.List.{[], _∷_};
 ghost use Prim.Native.Nat.{_+_, _<_, _≤_};
 ghost use lib.ListN.{length};
 ghost use Rattle.utf8.specs.Quoted.{bytes as quotedBytes};
@@ -26,8 +27,8 @@ ghost use Rattle.pool.specs.Tables.{N, stringWord};
 ghost use Rattle.pool.specs.Unfold.{nameAt};
 ghost use Rattle.pool.specs.Areas.{lent, given};
 ghost use Rattle.pool.specs.Ready.{Ready};
-ghost use Rattle.names.specs.Names.{isAnonymous};
-ghost use Rattle.names.specs.Components.{prefixOf, component, isNumber, isOdd, isHyg, putDot, stringIn};
+ghost use Rattle.names.specs.Names.{isAnonymous, escaped};
+ghost use Rattle.names.specs.Components.{prefixOf, component, isNumber, isHyg, putDot, stringIn};
 
 // The bytes of string row r.
 pub fn read_string<'a>(bytes: &'a [u8], names: &[u32], r: usize) -> &'a [u8]
@@ -62,18 +63,6 @@ pub fn prefix_of(bytes: &[u8], names: &[u32], words: &[u32], t: Tables, r: usize
     name_prefix(names, t, r)
 }
 
-// Whether the last component is a string that needs « ».
-pub fn is_odd(bytes: &[u8], names: &[u32], words: &[u32], t: Tables, r: usize) -> bool
-    requires { ⌜ (Ready (now bytes) (now names) (now words) t) × (r < N (now names)) ⌝ }
-    ensures { λ v. ⌜ v ≡ isOdd (nameAt (lent bytes names words) r) ⌝ }
-{
-    if name_kind(names, t, r) != NAME_STRING {
-        return false;
-    }
-    let string = name_low(names, t, r);
-    !ok_str(read_string(bytes, names, string))
-}
-
 // "_hyg"
 fn is_hyg_text(s: &[u8]) -> bool
     ensures { λ v. ⌜ v ≡ sameBytes (now (s .entry)) (quotedBytes "_hyg") ⌝ }
@@ -99,6 +88,26 @@ pub fn is_hyg(bytes: &[u8], names: &[u32], words: &[u32], t: Tables, r: usize) -
     is_hyg_text(read_string(bytes, names, string))
 }
 
+// « or », which differ in their second byte.
+fn put_mark(rows: &mut [u32], text: &mut [u8], s: Sink, second: u8) -> Sink
+    ensures { λ v. ⌜ Leaves rows text s v (putBytes (194 ∷ second ∷ [])) ⌝ }
+{
+    let s = put_byte(rows, text, s, 194);
+    put_byte(rows, text, s, second)
+}
+
+// A string component, between « and » if it is not plain.
+fn put_escaped(rows: &mut [u32], text: &mut [u8], s: Sink, string: &[u8]) -> Sink
+    ensures { λ v. ⌜ Leaves rows text s v (putBytes (escaped (now (string .entry)))) ⌝ }
+{
+    if ok_str(string) {
+        return put_bytes(rows, text, s, string);
+    }
+    let s = put_mark(rows, text, s, 171);
+    let s = put_bytes(rows, text, s, string);
+    put_mark(rows, text, s, 187)
+}
+
 // The bytes of the last component.
 pub fn put_component(
     bytes: &[u8],
@@ -116,7 +125,7 @@ pub fn put_component(
 {
     let low = name_low(names, t, r);
     if name_kind(names, t, r) == NAME_STRING {
-        return put_bytes(rows, text, s, read_string(bytes, names, low));
+        return put_escaped(rows, text, s, read_string(bytes, names, low));
     }
     let high = name_high(names, t, r);
     put_digits(rows, text, s, (low + high * 4294967296) as u64)

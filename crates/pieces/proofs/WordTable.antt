@@ -25,7 +25,7 @@ texts = flat words
 unfoldable pub starts : List ℕ
 starts =
     0 ∷ 5 ∷ 23 ∷ 30 ∷ 33 ∷ 39 ∷ 48 ∷ 59 ∷ 67 ∷ 68 ∷ 69 ∷ 71 ∷ 72 ∷ 73 ∷ 74 ∷ 76 ∷ 77 ∷ 83 ∷ 86 ∷ 89 ∷ 93 ∷ 97 ∷ 100 ∷ 104 ∷ 105 ∷ 106 ∷ 107 ∷ 109
-    ∷ 112 ∷ 113 ∷ 115 ∷ 116 ∷ 117 ∷ 118 ∷ 119 ∷ 120 ∷ 121 ∷ 122 ∷ 124 ∷ 126 ∷ 127 ∷ 128 ∷ 128 ∷ []
+    ∷ 112 ∷ 113 ∷ 115 ∷ 116 ∷ 117 ∷ 118 ∷ 119 ∷ 120 ∷ 121 ∷ 122 ∷ 126 ∷ 127 ∷ 128 ∷ 128 ∷ []
 
 abbrev from : ℕ → ℕ
 from w = getD starts w 0
@@ -62,11 +62,11 @@ pub record Part (w next : ℕ) : Type 0 where
   pub word : take (from next - from w) (drop (from w) texts) ≡ wordBytes w
 
 -- every word's test
-all-right : (w : ℕ) → w < 42 → T (right w (getD (take 42 starts) w 0))
+all-right : (w : ℕ) → w < 41 → T (right w (getD (take 41 starts) w 0))
 unfolding right texts starts sameBytes bytes encode
-all-right w h = at right (take 42 starts) tt w h
+all-right w h = at right (take 41 starts) tt w h
 
-pub part : (w : ℕ) → w < 42 → Part w (w + 1)
+pub part : (w : ℕ) → w < 41 → Part w (w + 1)
 unfolding right
 part w h =
     let t = all-right w h in

@@ -10,7 +10,7 @@ words =
     "axiom" ∷ "Quotient primitive" ∷ "theorem" ∷ "def" ∷ "opaque" ∷ "inductive" ∷ "constructor" ∷ "recursor"
     ∷ "(" ∷ "{" ∷ "{{" ∷ "[" ∷ ")" ∷ "}" ∷ "}}" ∷ "]"
     ∷ "forall" ∷ "fun" ∷ "let" ∷ "Type" ∷ "Sort" ∷ "max" ∷ "imax"
-    ∷ "@" ∷ " " ∷ ":" ∷ ":=" ∷ "→" ∷ "," ∷ "=>" ∷ ";" ∷ "." ∷ "{" ∷ "}" ∷ "+" ∷ "\"" ∷ "_" ∷ "«" ∷ "»" ∷ "(" ∷ ")" ∷ ""
+    ∷ "@" ∷ " " ∷ ":" ∷ ":=" ∷ "→" ∷ "," ∷ "=>" ∷ ";" ∷ "." ∷ "{" ∷ "}" ∷ "+" ∷ "\"" ∷ "_" ∷ "«»" ∷ "(" ∷ ")" ∷ ""
     ∷ []
 
 abbrev pub wordIn : List String → ℕ → String

@@ -58,21 +58,19 @@ pub const QUOTE: usize = 35;
 
 pub const UNDERSCORE: usize = 36;
 
-pub const OPEN_ESCAPE: usize = 37;
+pub const ANONYMOUS: usize = 37;
 
-pub const CLOSE_ESCAPE: usize = 38;
+pub const OPEN_PAREN: usize = 38;
 
-pub const OPEN_PAREN: usize = 39;
+pub const CLOSE_PAREN: usize = 39;
 
-pub const CLOSE_PAREN: usize = 40;
-
-pub const EMPTY: usize = 41;
+pub const EMPTY: usize = 40;
 
 const WORDS: [u8; 128] = *b"axiomQuotient primitivetheoremdefopaqueinductiveconstructorrecursor\
     ({{{[)}}}]forallfunletTypeSortmaximax@ ::=\xe2\x86\x92,=>;.{}+\"_\xc2\xab\xc2\xbb()";
 
 // Where each word starts; the last one's end. In bytes, since a function that reads a table makes it on its stack at each call.
-const STARTS: [u8; 43] = [
+const STARTS: [u8; 42] = [
     0,
     5,
     23,
@@ -111,7 +109,6 @@ const STARTS: [u8; 43] = [
     120,
     121,
     122,
-    124,
     126,
     127,
     128,
@@ -148,7 +145,7 @@ fn sign_of(w: usize) -> u8
 }
 
 fn put_from_table(rows: &mut [u32], text: &mut [u8], s: Sink, w: usize) -> Sink
-    requires { ⌜ w < 42 ⌝ }
+    requires { ⌜ w < 41 ⌝ }
     ensures { λ v. ⌜ Leaves rows text s v (putText (wordBytes w)) ⌝ }
 {
     let starts = STARTS;
@@ -158,7 +155,7 @@ fn put_from_table(rows: &mut [u32], text: &mut [u8], s: Sink, w: usize) -> Sink
 }
 
 pub fn put_word(rows: &mut [u32], text: &mut [u8], s: Sink, w: usize) -> Sink
-    requires { ⌜ w < 42 ⌝ }
+    requires { ⌜ w < 41 ⌝ }
     ensures { λ v. ⌜ Leaves rows text s v (putText (wordBytes w)) ⌝ }
 {
     let b = sign_of(w);
@@ -170,7 +167,7 @@ pub fn put_word(rows: &mut [u32], text: &mut [u8], s: Sink, w: usize) -> Sink
 
 // A word, joined to the subtree before it.
 pub fn join_word(rows: &mut [u32], text: &mut [u8], s: Sink, w: usize) -> Sink
-    requires { ⌜ w < 42 ⌝ }
+    requires { ⌜ w < 41 ⌝ }
     ensures { λ v. ⌜ Leaves rows text s v (λ st. putJoin (putText (wordBytes w) st)) ⌝ }
 {
     let s = put_word(rows, text, s, w);

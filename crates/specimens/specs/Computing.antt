@@ -18,7 +18,7 @@ use Rattle.layout.specs.Listing.{bytesOf, countOf, longestRow, testsIn}
 use Rattle.layout.specs.Paint.{paint}
 use Rattle.layout.specs.Call.{untouched, listed, outcome}
 use Rattle.pieces.specs.Docs.{quoted, under, tileFrom, tile, digitsTo, digits, numberDoc, opening, closing}
-use Rattle.names.specs.Names.{dotted, nameText, isAnonymous, hasOdd, nameDoc, isHygienic}
+use Rattle.names.specs.Names.{escaped, dotted, joined, isAnonymous, nameText, nameDoc, isHygienic}
 use Rattle.levels.specs.Levels.{plus, maxPar, succsPar, sortDoc, levelsDoc}
 use Rattle.binders.specs.Runs.{leading, following, runsTo, runs}
 use Rattle.binders.specs.Binders.{binders, chainBody, pushed, inForce, isArrow, isNamedPi, goesAlong, sameGroup, binderName, groupDoc, telescope}
@@ -37,7 +37,7 @@ unfolding utf8From utf8 pointsFrom points isStart isRest allRest letterlike same
     levelNode levelTo levelAt levelsFrom listAt exprNode exprTo exprAt declarAt rising stringOk nameFieldsOk nameOk levelFieldsOk levelOk listOk listEntryOk allDigits natural
     unused exprFieldsOk depthBy looseBy exprOk declarOk number place firstBad rowsVerdict verdict rowCount flatSize hasBreak firstBreak textBytes node docAt textBefore rowOk Valid
     scan whole fault ownRow stored Fine unmarked textEvents events step steps walk run layout pieces bytesOf countOf longestRow testsIn paint untouched listed outcome quoted
-    under tileFrom tile digitsTo digits numberDoc dotted nameText isAnonymous hasOdd nameDoc isHygienic plus maxPar succsPar sortDoc levelsDoc leading following runsTo runs
+    under tileFrom tile digitsTo digits numberDoc escaped dotted joined isAnonymous nameText nameDoc isHygienic plus maxPar succsPar sortDoc levelsDoc leading following runsTo runs
     binders chainBody pushed inForce isArrow isNamedPi goesAlong sameGroup opening closing binderName groupDoc telescope arrowPar forallPar funPar runPar runsPar bindersPar varDoc
     appHead appArgs appPar chainPar letPar exprParTo exprPar exprDoc keyword info canLeave taken defRest mainDef axiomRest mainAxiom declarDoc Answers·number Answers·place
     isAccepted stopAnswer ofLaid Prints·untouched documentCleared filled documentListed afterWalk printDoc checked printExpr printDeclar hasText textSpan hasString stringSpan spanOf areaOf

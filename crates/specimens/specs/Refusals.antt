@@ -141,7 +141,7 @@ pub bytes-expr : walked printExpr (replicate 65537 97) (literal 65537) 0 700 655
 unfolding computing report literal walked
 bytes-expr = refl
 
-pub bytes-declar : walked printDeclar (replicate 65537 97) (literal 65537) 0 700 65538 ≡ 8 ∷ 17 ∷ []
+pub bytes-declar : walked printDeclar (replicate 65537 97) (literal 65537) 0 700 65538 ≡ 8 ∷ 13 ∷ []
 unfolding computing report literal walked
 bytes-declar = refl
 

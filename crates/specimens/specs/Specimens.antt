@@ -1,4 +1,4 @@
--- 01, Specimens: the starred ones, "proved together, as a list with one result about the definitions".
+-- 01, Specimens: the starred ones, "proved together, as a list with one result about the definitions"; among the names those of 02, P1.
 use Prim.Native.Nat.{ℕ}
 use Prim.Native.String.{String}
 use mathlib.Core.List.{List, [], _∷_}
@@ -9,7 +9,7 @@ use Rattle.document.specs.Doc.{rowCount, textBytes}
 use Rattle.document.specs.Walk.{Marked, unmarked}
 use Rattle.layout.specs.Layout.{pieces}
 use Rattle.layout.specs.Listing.{bytesOf, longestRow}
-use Rattle.pool.specs.Tree.{Name, anonymous, string, Level, paramˡ, Expr, var, sort, const, app, pi, lam, valued}
+use Rattle.pool.specs.Tree.{Name, anonymous, string, number, Level, paramˡ, Expr, var, sort, const, app, pi, lam, valued}
 use Rattle.names.specs.Names.{nameDoc}
 use Rattle.binders.specs.Options.{indented}
 use Rattle.pretty_printer.specs.Exprs.{exprDoc}
@@ -52,6 +52,9 @@ u = paramˡ (name "u")
 k : Expr → List ℕ
 k value = listing 120 (declarDoc (indented 2) (valued 3 (name "k") (u ∷ []) (forallᵉ "a" (sort u) (sort u)) value))
 
+aThenBC : Name
+aThenBC = string (name "a") (bytes "b c")
+
 names : List Name → List (List ℕ)
 names [] = []
 names (n ∷ ns) = listing 120 (nameDoc n) ∷ names ns
@@ -69,14 +72,21 @@ printed =
     ∷ expr (fun "a" (constant "A") (fun "b" (constant "B") (fun "c" (constant "A") (fun "d" (constant "A") (var 0)))))
     ∷ k (fun "a" (sort u) (var 0))
     ∷ k (constant "c")
+    ∷ counts 120 (nameDoc aThenBC)
+    ∷ counts 120 (nameDoc anonymous)
     ∷ names
     (name "α"
     ∷ name "x₈"
     ∷ name "ω"
     ∷ name "x₉"
     ∷ name "λ"
-    ∷ string (name "a") (bytes "b c")
+    ∷ aThenBC
     ∷ anonymous
+    ∷ string (name "a b") (bytes "c")
+    ∷ number (name "a b") 5
+    ∷ string (string (name "a") []) (bytes "b")
+    ∷ string (name "") (bytes "b c")
+    ∷ name "_@"
     ∷ [])
 
 pub expected : List (List ℕ)
@@ -92,15 +102,22 @@ expected =
     ∷ bytes "fun (a : @A) (b : @B) (c d : @A) => d"
     ∷ bytes "def k.{u} (a : Sort u) : Sort u := a"
     ∷ bytes "def k.{u} : Sort u → Sort u := @c"
+    ∷ (1 ∷ 9 ∷ 9 ∷ 9 ∷ [])
+    ∷ (1 ∷ 4 ∷ 4 ∷ 4 ∷ [])
     ∷ bytes "α"
     ∷ bytes "x₈"
     ∷ bytes "«ω»"
     ∷ bytes "«x₉»"
     ∷ bytes "«λ»"
-    ∷ bytes "«a.b c»"
+    ∷ bytes "a.«b c»"
     ∷ bytes "«»"
+    ∷ bytes "«a b».c"
+    ∷ bytes "«a b».5"
+    ∷ bytes "a..b"
+    ∷ bytes "«b c»"
+    ∷ bytes "_@"
     ∷ []
 
 pub specimens-print : printed ≡ expected
-unfolding computing listing counts name constant forallᵉ fun expr natToNat u k names printed expected
+unfolding computing listing counts name constant forallᵉ fun expr natToNat u k aThenBC names printed expected
 specimens-print = refl

@@ -48,7 +48,7 @@ fn roots(pool: &Pool, chosen: &[Chosen]) -> Result<Vec<Root>, Failure> {
 fn titled(pool: &Pool, root: Root) -> String {
     match root {
         Root::Expr(row) => format!("expression row {row}"),
-        Root::Declar(row) => match pool.declar_title(row, TITLE) {
+        Root::Declar(row) => match pool.declar_typed(row, TITLE) {
             Some(name) => format!("declaration row {row} ({})", shown(&name)),
             None => format!("declaration row {row}"),
         },

@@ -29,10 +29,11 @@ fn found_as_typed_and_as_listed() {
     };
     for (name, found) in [
         ("a.b", "ABK"),
-        ("«a.b»", "ABK"),
+        ("«a.b»", "B"),
         ("a.«b»", "AK"),
         ("a.«b c».5", "D"),
-        ("«a.b c.5»", "DE"),
+        ("«a.b c.5»", "E"),
+        ("«a».b c.5", "D"),
         ("a.b c.5", "DE"),
         ("_", "FG"),
         ("«_»", "G"),

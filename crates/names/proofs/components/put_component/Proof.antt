@@ -19,8 +19,8 @@ read-string-requires c κs =
     (name-row (start .args .bytes .now) (start .args .names .now) (start .args .words .now) (start .args .t) (start .pre .0) (start .args .r) (start .pre .1))
     (sym (c .before .before .before .name-kind .ensures .0) ∙ c .before .before .if1 .taken))
 
-put-bytes-requires : tie.Need-put-bytes-requires
-put-bytes-requires c κs = search needs
+put-escaped-requires : tie.Need-put-escaped-requires
+put-escaped-requires c κs = search needs
 
 same-length : tie.Need-same-length
 same-length c = search needs
@@ -30,14 +30,14 @@ same-length-2 c = search needs
 
 returns : tie.Need-returns
 returns c =
-    let at-put-bytes = c .before .before .before .before in
-    let at-read-string = at-put-bytes .before in
+    let at-put-escaped = c .before .before .before .before in
+    let at-read-string = at-put-escaped .before in
     let at-if1 = at-read-string .before .before .before in
     let at-name-kind = at-if1 .before in
     let at-name-low = at-name-kind .before in
     let start = at-name-low .before .before .before .before .before .before in
     rw (
-      at-put-bytes .put-bytes .ensures,
+      at-put-escaped .put-escaped .ensures,
       at-read-string .read-string .ensures,
       at-name-low .name-low .ensures .0,
       component-string
@@ -89,7 +89,7 @@ put-component-spec =
     name-low-requires
     name-kind-requires
     read-string-requires
-    put-bytes-requires
+    put-escaped-requires
     same-length
     same-length-2
     returns
