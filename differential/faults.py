@@ -33,7 +33,7 @@ FAULTS = (
     ("every anonymous binder prints _", "b.name == () and not b.occurs else", "b.name == () else"),
     ("no component in marks", "return component if is_plain(component) else", "return component if True else"),
     ("the anonymous name bare", 'return "«»".encode()', 'return b""'),
-    ("marks as texts of their own", "return part(name_text(name))", 'return part(name_text(name)) if name else join("«", "", "»")'),
+    ("the anonymous marks as texts of their own", "return part(name_text(name))", 'return part(name_text(name)) if name else join("«", "", "»")'),
 )
 
 

@@ -1,4 +1,4 @@
-"""An executable model of document 01, written from its sentences; quoted sentences are 01's.
+"""An executable model of document 01, written from its sentences; quoted sentences are 01's, or 02's under their number (P1).
 
     pool = Pool(area, words)                pool.fault: (number, place) of check, (0, 0) when accepted
     print_expression(pool, root, indent, width, areas)   print_declaration(...)      -> Answer

@@ -1,4 +1,4 @@
-"""The recorded corpus: `record.py` makes corpus/prints.bin from the published Rust; `read()` gives it back. Format: README.md."""
+"""The recorded corpus: `record.py` makes corpus/prints.bin from the published Rust (as harness/ edits it); `read()` gives it back. Format: README.md."""
 import os
 import struct
 import sys

@@ -1,4 +1,4 @@
-"""The published Rust as a program: requests to the harness and its answers (see README.md, "Requests and answers")."""
+"""The published Rust as a program (harness/ edits it as document 02 asks): requests to the harness and its answers (see README.md, "Requests and answers")."""
 import os
 import struct
 import subprocess

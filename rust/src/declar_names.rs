@@ -52,18 +52,22 @@ fn pieces<'a>(parts: impl IntoIterator<Item = Part<'a>>) -> Vec<Cow<'a, [u8]>> {
     pieces
 }
 
-/// Is this a name's text as listings have it? Each string component may have its marks « » or not, and so may a name that is one number.
+/// Is this a name's text as listings have it? Each string component may have its marks « » or not, and so may a number that is the whole text.
 fn is_listed(parts: &[Part<'_>], name: &str) -> bool {
     if parts.is_empty() {
         return name.is_empty() || name == "«»";
     }
     // what may be left of the name after the components so far: as many ways as marks may have been passed
     let (mut rests, mut empty) = (vec![name.as_bytes()], true);
-    for part in parts {
+    for (i, part) in parts.iter().enumerate() {
         if !empty {
             rests = rests.iter().filter_map(|rest| rest.strip_prefix(b".")).collect();
         }
-        let (bare, marked) = (part.bare(), matches!(part, Part::Text(_)) || parts.len() == 1);
+        let bare = part.bare();
+        let marked = match part {
+            Part::Text(text) => !text.is_empty(),
+            Part::Number(_) => empty && i + 1 == parts.len(),
+        };
         empty = empty && bare.is_empty();
         rests = rests.iter().flat_map(|rest| [rest.strip_prefix(&bare[..]), after_marked(rest, &bare).filter(|_| marked)]).flatten().collect();
         rests.dedup();
@@ -75,7 +79,7 @@ fn after_marked<'a>(rest: &'a [u8], text: &[u8]) -> Option<&'a [u8]> {
     rest.strip_prefix("«".as_bytes())?.strip_prefix(text)?.strip_prefix("»".as_bytes())
 }
 
-/// A name's text without the marks that stand where components start and end.
+/// A name's text without the marks that stand where components start and end. (One within a component may stand there, too.)
 fn without_marks(name: &str) -> String {
     let opened = |part| str::strip_prefix(part, '«').unwrap_or(part);
     let bare = |part| str::strip_suffix(part, '»').unwrap_or(part);
@@ -190,7 +194,8 @@ impl<'a> DeclarNames<'a> {
     /// The rows of all declarations of a name, rising: as a listing shows it, with the marks « » or without them, or as it is typed.
     pub fn find(&self, asked: &str) -> Vec<u32> {
         let mut rows = Vec::new();
-        for text in [asked, &without_marks(asked)] {
+        let inside = asked.strip_prefix('«').and_then(|a| a.strip_suffix('»')).unwrap_or(asked);
+        for text in [asked, inside, &without_marks(asked)] {
             rows.extend(self.having(&[Cow::Borrowed(text.as_bytes())], |row| self.pool.declar_has_name(row, asked)));
         }
         if let Ok(name) = names::parse(asked) {

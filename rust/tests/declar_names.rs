@@ -5,25 +5,8 @@ use tilusorgu::{DeclarNames, Pool, Sizes};
 /// A name copied from a listing finds its declaration, and no other one that is listed otherwise.
 #[test]
 fn as_it_is_listed() {
-    let typed = [
-        "_",
-        "«_»",
-        "«»",
-        "a.«».«b c»",
-        "a»b",
-        "«a b».c",
-        "«a b».5",
-        "«a b.5»",
-        "5.«x y»",
-        "«a.b»",
-        "a.b",
-        "α.«ω»",
-        "«».a",
-        "«a«b».x",
-        "_@",
-        "«_@x»",
-        "«\u{3bb}».«5».5",
-    ];
+    let typed: Vec<&str> =
+        "_|«_»|«»|a.«».«b c»|«».a|a»b|«a b».c|«a b».5|«a b.5»|5.«x y»|«a.b»|a.b|α.«ω»|«a«b».x|_@|«_@x»|«λ».«5».5".split('|').collect();
     let text: String = typed.iter().map(|name| format!("(axiom {name} @C)")).collect();
     let pool = pack(&text, Sharing::Shared).unwrap().pool;
     let names = DeclarNames::new(&pool);
@@ -39,11 +22,26 @@ fn as_it_is_listed() {
         assert!(!marked || found.iter().all(|&other| listed(other) == listed(row)), "{}", listed(row));
     }
     // what is listed packs to the same name, but for the anonymous one, _, empty components and » in a component
-    for row in 5..typed.len() as u32 {
+    for row in 6..typed.len() as u32 {
         let again = pack(&format!("(axiom {} @C)", listed(row)), Sharing::Shared).unwrap().pool;
-        assert_eq!(again.list_declar(0, Sizes::default()).unwrap().text, format!("axiom {} : @C", listed(row)));
+        assert_eq!(again.declar_typed(0, 100), pool.declar_typed(row, 100));
     }
     assert_eq!(["«a b».5", "a b.5", "«a b.5»"].map(|name| names.find(name).len()), [1, 2, 1]);
+}
+
+/// One component with a mark and a dot in it, x».y; and an empty component before a number, which is listed as the number.
+#[test]
+fn a_mark_inside_and_an_empty_part() {
+    let names = [[0, 0, 0, 0], [1, 0, 0, 0], [1, 0, 1, 0], [2, 2, 5, 0]];
+    let mut words = vec![2, 4, 0, 1, 0, 1, 2, 0, 5, 5, 0];
+    words.extend(names.into_iter().flatten());
+    words.extend([0, 0, 9, 1, 0, 0, 0, 0, 1, 0, 0, 1, 0, 0, 0, 0, 3, 0, 0, 0]);
+    let pool = Pool { bytes: "x».y".into(), words };
+    assert_eq!(pool.list_declar(0, Sizes::default()).unwrap().text, "axiom «x».y» : \"\"");
+    assert_eq!(pool.list_declar(1, Sizes::default()).unwrap().text, "axiom 5 : \"\"");
+    let index = DeclarNames::new(&pool);
+    assert_eq!(["«x».y»", "x».y", "«5»"].map(|name| index.find(name)), [[0], [0], [1]]);
+    assert!(["x.y", "«x».y", "«»«5»", "«»"].iter().all(|name| index.find(name).is_empty()));
 }
 
 /// A pass over all declarations for each of these names would take some minutes.

@@ -1,1 +1,1 @@
-// Recorded prints of the published Rust, computed by the definitions.
+// Recorded prints of the published Rust, edited as document 02 asks, computed by the definitions.

@@ -1,9 +1,8 @@
 -- A print's document keeps 01's limits on blanks and nests, so its rows are accepted by the row rules of 9.
-use Prim.Native.Nat.{ℕ, zero, suc, _+_, _≤_}
+use Prim.Native.Nat.{ℕ, zero, suc, _≤_}
 use native.Mathlib.Omega.{arith}
 use mathlib.Core.Bool.{Bool, true, false, _&&_, not, cond}
 use mathlib.Core.List.{List, [], _∷_, map}
-use mathlib.Core.Path.{_≡_, refl}
 use lib.Dec.{ltb}
 use lib.ListN.{length, take, drop}
 use Rattle.document.specs.Stored.{Fine}

@@ -1,19 +1,16 @@
 -- What the code reads off a name row.
-use Prim.Native.Nat.{ℕ, zero, suc, _+_, _*_, _^_, _<_, _≤_}
+use Prim.Native.Nat.{ℕ, _+_, _*_, _^_, _<_, _≤_}
 use native.Mathlib.Omega.{arith}
-use mathlib.Core.Bool.{Bool, true, false}
+use mathlib.Core.Bool.{false}
 use mathlib.Core.List.{List}
-use mathlib.Core.Path.{_≡_, refl, sym, ap, _∙_}
+use mathlib.Core.Path.{_≡_, sym, ap, _∙_}
 use lib.ListN.{length}
-use lib.Dec.{ltb, leb, eqb}
-use borrow.Author.Tests.{ltb-true, leb-true}
+use lib.Dec.{eqb}
 use Rattle.utf8.specs.Quoted.{bytes}
 use Rattle.utf8.specs.Letterlike.{sameBytes}
 use Rattle.pool.specs.declared.tables.Tables.{Tables}
 use Rattle.pool.specs.Tables.{S, N, stringWord, nameWord, stringAt}
-use Rattle.pool.specs.Tree.{anonymous, string, number}
-use Rattle.pool.specs.Unfold.{nameNode, nameAt}
-use Rattle.pool.specs.Rules.{stringOk, nameFieldsOk, nameOk}
+use Rattle.pool.specs.Unfold.{nameAt}
 use Rattle.pool.specs.Areas.{over}
 use Rattle.basics.proofs.Booleans.{true-false}
 use Rattle.pool.proofs.RowUnfolds as rows

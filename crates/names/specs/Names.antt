@@ -1,5 +1,5 @@
 -- 01, Names and levels.
-use Prim.Native.Nat.{ℕ, suc}
+use Prim.Native.Nat.{ℕ}
 use mathlib.Core.Bool.{Bool, true, false, cond}
 use mathlib.Core.List.{List, [], _∷_, _++_}
 use Rattle.utf8.specs.Quoted.{bytes}

@@ -9,7 +9,7 @@ mod level; // published, with is_zero answering false
 mod name;
 mod pool;
 mod pretty_printer {
-    include!("pretty_printer.rs"); // published, with one line added (the probe)
+    include!("pretty_printer.rs"); // published, with one line added (the probe) and names as P1 has them
     pub mod dump {
         include!("dump.rs");
     }
