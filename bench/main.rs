@@ -21,6 +21,21 @@ extern "C" {
         out: *mut u64,
         out_count: usize,
     ) -> u32;
+    fn tilusorgu_layout_pending(
+        rows: *const u32,
+        row_words: usize,
+        count: u64,
+        text: *const u8,
+        text_bytes: usize,
+        total: u64,
+        width: u32,
+        pending: *mut u32,
+        pending_words: usize,
+        listing: *mut u8,
+        listing_bytes: usize,
+        out: *mut u64,
+        out_count: usize,
+    ) -> u32;
 }
 
 /// The refusal number and the eight words.
@@ -42,6 +57,30 @@ fn layout(d: &Doc, width: u32, listing: &mut [u8]) -> (u32, [u64; 8]) {
             d.text.len(),
             d.text.len() as u64,
             width,
+            listing.as_mut_ptr(),
+            listing.len(),
+            out.as_mut_ptr(),
+            8,
+        )
+    };
+    assert!(n as u64 == out[0]);
+    (n, out)
+}
+
+/// The layout with a pending area.
+fn layout_pending(d: &Doc, width: u32, pending: &mut [u32], listing: &mut [u8]) -> (u32, [u64; 8]) {
+    let mut out = [u64::MAX; 8];
+    let n = unsafe {
+        tilusorgu_layout_pending(
+            d.rows.as_ptr(),
+            d.rows.len(),
+            (d.rows.len() / 7) as u64,
+            d.text.as_ptr(),
+            d.text.len(),
+            d.text.len() as u64,
+            width,
+            pending.as_mut_ptr(),
+            pending.len(),
             listing.as_mut_ptr(),
             listing.len(),
             out.as_mut_ptr(),
@@ -408,16 +447,30 @@ fn stack_of(task: &mut dyn FnMut()) -> usize {
     here - a
 }
 
-const TASKS: [&str; 5] = ["check, full pool", "layout, left comb", "layout, right comb", "layout, chain of groups", "layout, nested groups"];
+const TASKS: [&str; 9] = [
+    "check, full pool",
+    "layout, left comb",
+    "layout, right comb",
+    "layout, chain of groups",
+    "layout, nested groups",
+    "layout with a pending area, left comb",
+    "layout with a pending area, right comb",
+    "layout with a pending area, chain of groups",
+    "layout with a pending area, nested groups",
+];
 
 fn task(i: usize) -> Box<dyn FnMut() + Send> {
     if i == 0 {
         let p = pool(65536);
         return Box::new(move || assert!(check(&p).0 == 0));
     }
-    let d = [left_comb, right_comb, groups, nested][i - 1](16384);
+    let d = [left_comb, right_comb, groups, nested][(i - 1) % 4](16384);
     let mut listing = vec![0u8; 1 << 20];
-    Box::new(move || assert!(layout(&d, 0, &mut listing).0 == 0))
+    if i <= 4 {
+        return Box::new(move || assert!(layout(&d, 0, &mut listing).0 == 0));
+    }
+    let mut pending = vec![0u32; 3 * d.count()];
+    Box::new(move || assert!(layout_pending(&d, 0, &mut pending, &mut listing).0 == 0))
 }
 
 /// Whether a task passes in a thread with a stack of so many bytes: a process of its own, which an overflow kills.
@@ -448,6 +501,11 @@ fn interface() {
     assert!(layout(&d, 6, &mut listing) == (0, [0, 0, 8, 4, 6, 1, 6, 1]) && &listing[..6] == b"ab cd ");
     assert!(layout(&d, 5, &mut listing) == (0, [0, 0, 8, 4, 6, 3, 2, 1]) && &listing[..6] == b"ab\ncd\n");
     assert!(layout(&d, 5, &mut listing[..5]) == (22, [22, 0, 0, 0, 0, 0, 0, 0]));
+    let mut pending = [7u32; 25];
+    assert!(layout_pending(&d, 65536, &mut pending[..23], &mut listing) == (6, [6, 0, 0, 0, 0, 0, 0, 0]));
+    assert!(layout_pending(&d, 5, &mut pending[..23], &mut listing) == (30, [30, 0, 0, 0, 0, 0, 0, 0]) && pending == [7; 25]);
+    assert!(layout_pending(&d, 5, &mut pending, &mut listing[..5]) == (22, [22, 0, 0, 0, 0, 0, 0, 0]) && pending == [0; 25]);
+    assert!(layout_pending(&d, 6, &mut pending[..24], &mut listing) == (0, [0, 0, 8, 4, 6, 1, 6, 1]) && &listing[..6] == b"ab cd ");
 }
 
 fn main() {
@@ -510,14 +568,15 @@ fn main() {
         println!("| {} | {:.0} |", name, micros(ours));
     }
 
-    let mut listing = vec![0u8; 1 << 24];
+    let (mut listing, mut pending, mut again) = (vec![0u8; 1 << 24], vec![0u32; 3 * 16384], vec![0u8; 1 << 24]);
     println!("\n## Layout\n");
+    println!("By calls, and with a pending area just long enough, whose clearing is in the time; both give the same listing and counts.\n");
     match args.get(1) {
         None => println!("(no harness: the published Rust is left out)\n"),
-        Some(_) => println!("Against the published Rust's `render`; its time is `render` alone, ours has the check of the document in it. Both are processor time. Both listings are the same.\n"),
+        Some(_) => println!("Against the published Rust's `render`; its time is `render` alone, ours have the check of the document in them. All are processor time, and all listings are the same.\n"),
     }
-    println!("| document | rows | width | listing bytes | ours, µs | the Rust, µs | ours / the Rust |");
-    println!("|---|---|---|---|---|---|---|");
+    println!("| document | rows | width | listing bytes | by calls, µs | pending, µs | pending / by calls | the Rust, µs | by calls / the Rust | pending / the Rust |");
+    println!("|---|---|---|---|---|---|---|---|---|---|");
     let cases: [(&str, fn(usize) -> Doc, usize, usize, u64); 7] = [
         ("words tiled", words, 16384, 50, 20000),
         ("groups round a text", groups, 16384, 3, 20000),
@@ -536,12 +595,18 @@ fn main() {
             let (number, out) = layout(&d, width, &mut listing);
             assert!(number == 0, "{}: refused {} at {}", name, out[0], out[1]);
             let length = out[4] as usize;
+            let pending = &mut pending[..3 * d.count()];
+            assert!(layout_pending(&d, width, pending, &mut again) == (0, out), "{}: other counts", name);
+            assert!(again[..length] == listing[..length], "{}: another listing with a pending area", name);
             // turn and turn about, where a turn is short
             let turns = if runs >= 50 { 10 } else { 2 };
-            let (mut ours, mut theirs) = (Duration::MAX, None);
+            let (mut ours, mut loops, mut theirs) = (Duration::MAX, Duration::MAX, None);
             for turn in 0..turns {
                 ours = ours.min(best(20, Duration::from_millis(100), || {
                     black_box(layout(black_box(&d), width, &mut listing));
+                }));
+                loops = loops.min(best(20, Duration::from_millis(100), || {
+                    black_box(layout_pending(black_box(&d), width, pending, &mut again));
                 }));
                 if turn > 0 && runs == 1 {
                     continue;
@@ -551,15 +616,16 @@ fn main() {
                     theirs = Some(theirs.map_or(t, |u: Duration| u.min(t)));
                 }
             }
-            let (theirs, ratio) = match theirs {
-                None if args.len() < 2 => ("".into(), "".into()),
-                None => (format!("no answer in {} s", timeout / 1000), "".into()),
-                Some(t) => {
-                    let ratio = ours.as_secs_f64() / t.as_secs_f64();
-                    (format!("{:.0}", micros(t)), if ratio < 0.01 { format!("{:.6}", ratio) } else { format!("{:.2}", ratio) })
-                }
+            let ratio = |a: Duration, b: Duration| {
+                let ratio = a.as_secs_f64() / b.as_secs_f64();
+                if ratio < 0.01 { format!("{:.6}", ratio) } else { format!("{:.2}", ratio) }
             };
-            println!("| {} | {} | {} | {} | {:.0} | {} | {} |", name, d.count(), width, length, micros(ours), theirs, ratio);
+            let theirs = match theirs {
+                None if args.len() < 2 => " | | ".into(),
+                None => format!("no answer in {} s | | ", timeout / 1000),
+                Some(t) => format!("{:.0} | {} | {}", micros(t), ratio(ours, t), ratio(loops, t)),
+            };
+            println!("| {} | {} | {} | {} | {:.0} | {:.0} | {} | {} |", name, d.count(), width, length, micros(ours), micros(loops), ratio(loops, ours), theirs);
             std::io::stdout().flush().unwrap();
         }
     }

@@ -211,15 +211,37 @@ def random_document(r, budget):
     return random_document(r, budget - 1) + [(model.GROUP,)]
 
 
+def judge_pending(rows, text, width, counts, listing, tally, *what):
+    """The model's second layout against what the first gave: in a pending area just long enough, which is zero afterwards, in one that is longer, and 30 in one a
+    word short."""
+    for more in (0, 5, -1):
+        pending, lent = [1] * (3 * len(rows) + more), model.areas(0, 0, len(listing))
+        answer = model.laid_out_pending(rows, text, width, pending, lent)
+        if more < 0:
+            good = answer.number == 30 and set(pending) <= {1} and set(lent.listing) <= {0xA5}
+        else:
+            good = answer.number == 0 and tuple(answer.counts) == counts and bytes(lent.listing) == listing and not any(pending)
+        tally.judge(good, *what, "pending area", len(pending), "words:", answer.number, bytes(lent.listing), "expected", listing)
+
+
+def judge_product_pending(program, batch, tally):
+    """The product's second layout of given documents in areas just long enough: counts, listing and what the pending area holds are the model's."""
+    calls = [product.Call(product.PENDING, e.text, e.request.words, 0, 0, e.request.width, (len(e.rows), len(e.text), e.laid.length), 3 * len(e.rows)) for e in batch]
+    for c, r in zip(calls, product.call(program, calls)):
+        tally.judge(r == product.by_model(c), "product: layout with a pending area at width", c.width, c.words, c.area, r)
+
+
 def random_layouts(subjects, seed, count, tally):
-    """Layout of given documents: accepted by the model, and the Rust's `render` and the product give the same listing."""
+    """Layout of given documents: accepted by the model, and the Rust's `render` and both layouts of model and product give the same listing."""
     r, batch = random.Random(seed), []
     for _ in range(count):
         rows, text = model.rows_of(random_document(r, r.randint(1, 60)))
         words, width = [w for row in rows for w in row], r.choice((0, 1, 10, 20, 40, r.randint(0, 120)))
         answer = model.layout_document(words, len(rows), bytearray(text), len(text), width, bytearray(8192))
         tally.judge(answer.number == 0, "given document refused", answer.number, answer.place)
-        batch.append(Expected(rust.Request(2, 0, 0, width, text, words), rows, text, model.layout(rows, text, width), None))
+        e = Expected(rust.Request(2, 0, 0, width, text, words), rows, text, model.layout(rows, text, width), None)
+        judge_pending(rows, text, width, counts_of(e), e.laid.listing, tally, "given document at width", width)
+        batch.append(e)
     tally.figures["given documents"] = count
     requests = [e.request for e in batch]
     for e, reply in zip(batch, rust.ask(subjects.published, requests) if subjects.published else ()):
@@ -228,6 +250,8 @@ def random_layouts(subjects, seed, count, tally):
     for e, r in zip(batch, product.ask(subjects.product, requests) if subjects.product else ()):
         good = (r.number, r.listing, r.counts) == (0, e.laid.listing, counts_of(e))
         tally.judge(good, "product: layout at width", e.request.width, e.rows, e.text, r.fault)
+    if subjects.product:
+        judge_product_pending(subjects.product, batch, tally)
 
 
 def replay_model(pool_record, pool, tally):
@@ -239,6 +263,8 @@ def replay_model(pool_record, pool, tally):
         if good and p.rows is not None:
             good = lent.rows == [w for row in p.rows for w in row] and bytes(lent.text) == p.text
         tally.judge(good, "corpus, model: mode", p.mode, "root", p.root, "width", p.width, p.listing)
+        rows = [tuple(lent.rows[i:i + 7]) for i in range(0, len(lent.rows), 7)]
+        judge_pending(rows, bytes(lent.text), p.width, p.counts, p.listing, tally, "corpus, model, second layout: mode", p.mode, "root", p.root, "width", p.width)
 
 
 def replay_rust(program, pool_records, tally):

@@ -33,6 +33,11 @@ FAULTS = (
     ("every anonymous binder prints _", "b.name == () and not b.occurs else", "b.name == () else"),
     ("no component in marks", "return component if is_plain(component) else", "return component if True else"),
     ("the anonymous name bare", 'return "«»".encode()', 'return b""'),
+    ("pending: the area not cleared", "pending[:] = [0] * len(pending)", "pass"),
+    ("pending: the area cleared for the rows alone", "pending[:] = [0] * len(pending)", "pending[:3 * len(rows)] = [0] * (3 * len(rows))"),
+    ("pending: 30 a word too early", "if len(pending) < 3 * len(rows):", "if len(pending) <= 3 * len(rows):"),
+    ("pending: 30 a word too late", "if len(pending) < 3 * len(rows):", "if len(pending) + 1 < 3 * len(rows):"),
+    ("pending: what follows a part not carried", "right_first if right_has else right_first + distance", "right_first"),
     ("the anonymous marks as texts of their own", "return part(name_text(name))", 'return part(name_text(name)) if name else join("«", "", "»")'),
 )
 

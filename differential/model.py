@@ -774,6 +774,59 @@ def layout(rows, text, width, keep=None):
 
 
 # ---------------------------------------------------------------------------------------------------------------------------------
+# Layout with a pending area (02, P2): nothing of the layout above is used
+
+
+class Pending:
+    '''"a list of pending rows with their nest and flatness in a lent area": three words for each. The third is the distance from
+    the row's end to the next break (or to the end).'''
+
+    def __init__(self, area):
+        self.area, self.entries = area, 0
+
+    def put(self, row, nest, flat, distance):
+        at = 3 * self.entries
+        assert at + 3 <= len(self.area), "more rows are pending than the document has"
+        self.area[at:at + 3] = (row, 2 * nest + flat, distance)
+        self.entries += 1
+
+    def take_top(self):
+        self.entries -= 1
+        row, nest_and_flat, distance = self.area[3 * self.entries:3 * self.entries + 3]
+        return row, nest_and_flat // 2, nest_and_flat % 2, distance
+
+
+def layout_pending(rows, text, width, area):
+    '''"takes the top one until none is left"; "the same listing, counts and refusals as the first". What was pending is left in the area.'''
+    listing, row_start, longest, tests = bytearray(), 0, 0, 0
+    pending = Pending(area)
+    pending.put(len(rows) - 1, 0, 0, 0)
+    while pending.entries:
+        at, nest, flat, distance = pending.take_top()
+        kind, one, two, _, size, _, _ = rows[at]
+        if kind == TEXT:
+            listing += text[one:one + two]
+        elif kind == BREAK and flat:
+            listing += b" " * one
+        elif kind == BREAK:
+            longest = max(longest, len(listing) - row_start)
+            row_start = len(listing) + 1
+            listing += b"\n" + b" " * nest
+        elif kind == JOIN:
+            _, _, _, right_rows, _, right_first, right_has = rows[at - 1]
+            pending.put(at - 1, nest, flat, distance)
+            pending.put(at - 1 - right_rows, nest, flat, right_first if right_has else right_first + distance)
+        elif kind == NEST:
+            pending.put(at - 1, nest + one, flat, distance)
+        else:
+            tests += not flat
+            flat = int(flat or len(listing) + size + distance <= row_start + width)
+            pending.put(at - 1, nest, flat, distance)
+    longest = max(longest, len(listing) - row_start)
+    return Laid(bytes(listing), len(listing), listing.count(10) + 1, longest, tests)
+
+
+# ---------------------------------------------------------------------------------------------------------------------------------
 # Calls
 
 Areas = namedtuple("Areas", "rows text listing")
@@ -788,7 +841,8 @@ def areas(row_words=7 * DOCUMENT_ROWS, text=DOCUMENT_BYTES, listing=1 << 20, fil
 
 def write_listing(laid, listing):
     '''"22 leaves ... in the listing area the first bytes of the full listing, as many as fit"'''
-    listing[:min(laid.length, len(listing))] = laid.listing
+    fits = min(laid.length, len(listing))
+    listing[:fits] = laid.listing[:fits]
 
 
 def print_call(pool, mode, root, indent, width, lent):
@@ -811,7 +865,11 @@ def print_call(pool, mode, root, indent, width, lent):
 
 
 def laid_out(rows, text, width, lent):
-    laid = layout(rows, text, width, len(lent.listing))
+    return written(rows, text, layout(rows, text, width, len(lent.listing)), lent)
+
+
+def written(rows, text, laid, lent):
+    """What a layout has laid out, in the listing area, and its answer."""
     write_listing(laid, lent.listing)
     if laid.length > len(lent.listing):
         return Answer(22, 0, None, lent)
@@ -861,16 +919,36 @@ def row_holds(rows, row, texts_end, text_count):
     return row == next_row(rows, kind, one, two)
 
 
-def layout_document(words, row_count, text, text_count, width, listing):
-    '''"Layout checks 9, 6, 22."'''
-    lent = Areas(words, text, listing)
+def given_document(words, row_count, text, text_count, width, lent, lay):
+    """9, then 6; else what `lay` makes of rows and text."""
     place = document_fault(words, row_count, text, text_count)
     if place is not None:
         return Answer(9, place, None, lent)
     if width > 65535:
         return Answer(6, 0, None, lent)
-    rows = [tuple(words[7 * i:7 * i + 7]) for i in range(row_count)]
-    return laid_out(rows, text[:text_count], width, lent)
+    return lay([tuple(words[7 * i:7 * i + 7]) for i in range(row_count)], text[:text_count])
+
+
+def layout_document(words, row_count, text, text_count, width, listing):
+    '''"Layout checks 9, 6, 22."'''
+    lent = Areas(words, text, listing)
+    return given_document(words, row_count, text, text_count, width, lent, lambda rows, text: laid_out(rows, text, width, lent))
+
+
+def laid_out_pending(rows, text, width, pending, lent):
+    '''"30 when the pending area is shorter than three words for each document row, met after 6 and before 22; after a success or
+    22 the pending area holds zeros, and other refusals do not touch it."'''
+    if len(pending) < 3 * len(rows):
+        return Answer(30, 0, None, lent)
+    laid = layout_pending(rows, text, width, pending)
+    pending[:] = [0] * len(pending)
+    return written(rows, text, laid, lent)
+
+
+def layout_document_pending(words, row_count, text, text_count, width, pending, listing):
+    """The second layout's call: 9, 6, 30, 22."""
+    lent = Areas(words, text, listing)
+    return given_document(words, row_count, text, text_count, width, lent, lambda rows, text: laid_out_pending(rows, text, width, pending, lent))
 
 
 def hand_out_text(words, row_count, text, text_count, row):

@@ -14,11 +14,12 @@ TOP = os.path.dirname(HERE)
 FILL = 0xA5
 CHECK = 3
 TEXT, STRING = 4, 5  # to hand out
+PENDING = 6  # layout with a pending area
 # `fault` says in words why there is no answer, or what the program found wrong with it; else it is None.
 Reply = namedtuple("Reply", "number place listing rows text counts fault")
 # One call: of a print the lengths of its areas (rows in words); of a layout the counts of rows and text bytes, and the listing's length; of a text to hand out these
-# counts, `root` being the row.
-Call = namedtuple("Call", "mode area words root indent width lengths")
+# counts, `root` being the row. Of a layout with a pending area also that area's length, in words.
+Call = namedtuple("Call", "mode area words root indent width lengths pending", defaults=(0,))
 # `counts` of what is handed out are its bytes.
 Called = namedtuple("Called", "number place counts areas fault")
 
@@ -105,11 +106,14 @@ def ask(program, requests, timeout=300):
 
 def encode_call(c):
     q = rust.encode(rust.Request(c.mode, c.root, c.indent, c.width, c.area, c.words))
-    return b"PLC1" + q[4:] + struct.pack("<3I", *c.lengths)
+    return b"PLC1" + q[4:] + struct.pack("<3I", *c.lengths) + (struct.pack("<I", c.pending) if c.mode == PENDING else b"")
 
 
 def area_lengths(c):
-    return c.lengths if c.mode < 2 else (0, 0, c.lengths[2]) if c.mode == 2 else (0, 0, 0)
+    """Of the areas that are answered; a pending area stands where a print's row area does."""
+    if c.mode < 2:
+        return c.lengths
+    return (c.pending if c.mode == PENDING else 0, 0, c.lengths[2] if c.mode in (2, PENDING) else 0)
 
 
 def decode_call(data, at, c):
@@ -146,6 +150,8 @@ def by_model(c):
     lent = model.Areas([FILL * 0x01010101] * rows, bytearray([FILL]) * text, bytearray([FILL]) * listing)
     if c.mode == 2:
         answer = model.layout_document(c.words, c.lengths[0], bytearray(c.area), c.lengths[1], c.width, lent.listing)
+    elif c.mode == PENDING:
+        answer = model.layout_document_pending(c.words, c.lengths[0], bytearray(c.area), c.lengths[1], c.width, lent.rows, lent.listing)
     else:
         answer = model.print_call(model.Pool(c.area, c.words), c.mode, c.root, c.indent, c.width, lent)
     counts = None if answer.counts is None else tuple(answer.counts)

@@ -1,4 +1,4 @@
-"""Inputs that document 01 refuses, with the number and place worked out by hand from its sentences; run through the model and the product.
+"""Inputs that documents 01 and 02 refuse, with the number and place worked out by hand from their sentences; run through the model and the product.
 
 The Rust refuses nothing. `cases()` gives (title, call, expected (number, place)); `judged(program)` what is wrong with the answers."""
 import product
@@ -195,6 +195,11 @@ def given(rows=GIVEN, row_count=None, text=b"abc", text_count=3, width=80, listi
     return product.Call(2, text, words, 0, 0, width, (len(rows) if row_count is None else row_count, text_count, listing))
 
 
+def given_pending(pending, **changes):
+    """The same with a pending area of so many words; the document has 7 rows, unless it is another."""
+    return given(**changes)._replace(mode=product.PENDING, pending=pending)
+
+
 def with_word(row, word, value):
     rows = [list(r) for r in GIVEN]
     rows[row][word] = value
@@ -223,8 +228,33 @@ def documents():
     yield "listing area just long enough", given(listing=4), (0, 0)
 
 
+def pending_areas():
+    yield "pending area just long enough", given_pending(21), (0, 0)
+    yield "pending area a word short", given_pending(20), (30, 0)
+    yield "pending area of three words for all rows but one", given_pending(18), (30, 0)
+    yield "no pending area", given_pending(0), (30, 0)
+    yield "pending area far too long", given_pending(49152), (0, 0)
+    yield "pending area of one row", given_pending(3, rows=[(2, 1, 0, 1, 1, 0, 1)], text_count=0), (0, 0)
+    yield "pending area of one row a word short", given_pending(2, rows=[(2, 1, 0, 1, 1, 0, 1)], text_count=0), (30, 0)
+    yield "slice longer than counted, pending area for the rows counted", given_pending(21, rows=GIVEN + [(9,) * 7], row_count=7), (0, 0)
+    yield "slice longer than counted, pending area a word short", given_pending(20, rows=GIVEN + [(9,) * 7], row_count=7), (30, 0)
+    yield "9 before 30", given_pending(0, text_count=2), (9, 3)
+    yield "9 before 30, of counts", given_pending(0, row_count=8), (9, 0)
+    yield "9 before 30, three times the row count being 2 in 32 bits", given_pending(2, row_count=(1 << 32) // 3 + 1), (9, 0)
+    yield "6 before 30", given_pending(20, width=65536), (6, 0)
+    yield "9 before 6 before 30", given_pending(20, width=65536, text_count=4), (9, 0)
+    yield "30 before 22", given_pending(20, listing=3), (30, 0)
+    yield "6 before 30 and 22", given_pending(20, width=65536, listing=3), (6, 0)
+    yield "22 with a pending area just long enough", given_pending(21, listing=3), (22, 0)
+    yield "22 with a pending area far too long", given_pending(400, listing=0), (22, 0)
+    yield "listing area just long enough, pending too", given_pending(21, listing=4), (0, 0)
+    deep = [(0, 0, 1, 1, 1, 1, 0)] + [(4, 0, 0, n, 1, 1, 0) for n in range(2, 16385)]
+    yield "16,384 rows in each other", given_pending(49152, rows=deep, text_count=1), (0, 0)
+    yield "16,384 rows in each other, pending area a word short", given_pending(49151, rows=deep, text_count=1), (30, 0)
+
+
 def cases():
-    for part in (counts_and_strings, names_levels_lists, expressions_declarations, prints, names, documents):
+    for part in (counts_and_strings, names_levels_lists, expressions_declarations, prints, names, documents, pending_areas):
         yield from part()
 
 
@@ -234,6 +264,16 @@ def prints_of_refused():
         if call.mode == product.CHECK and expected[0]:
             for mode in (0, 1):
                 yield "print, mode %d: %s" % (mode, title), call._replace(mode=mode, indent=2, width=80, lengths=(15, 5, 9)), expected
+
+
+def laid_out_pending():
+    """Each document that is laid out, with pending areas just long enough, a word short, none and longer: the answer is that of the layout without one, or 30 in
+    its place among them."""
+    for title, call, expected in documents():
+        exact = 3 * call.lengths[0]
+        for words in {exact, max(exact - 1, 0), 0, exact + 50}:
+            number = expected if expected[0] in (9, 6) or words >= exact else (30, 0)
+            yield "pending area of %d words: %s" % (words, title), call._replace(mode=product.PENDING, pending=words), number
 
 
 def handed_out():
@@ -248,7 +288,9 @@ def handed_out():
 
 
 def areas_hold(call, answer):
-    """Whether the areas are as 01 says of the number; a success and 22 against a print in long areas."""
+    """Whether the areas are as 01 and 02 say of the number; a success and 22 against a print in long areas, or against the layout without a pending area."""
+    if call.mode == product.PENDING:
+        return pending_holds(call, answer)
     if call.mode >= 2:
         return True
     rows, text, listing = answer.areas
@@ -263,9 +305,17 @@ def areas_hold(call, answer):
     return listing[:length] == full.areas.listing[:length] and past and rows == full.areas.rows[:len(rows)] and text == full.areas.text[:len(text)]
 
 
+def pending_holds(call, answer):
+    pending, _, listing = answer.areas
+    if answer.number in (9, 6, 30):
+        return set(pending) <= {product.FILL * 0x01010101} and set(listing) <= {product.FILL}
+    first = product.by_model(call._replace(mode=2))
+    return not any(pending) and (answer.number, answer.counts, listing) == (first.number, first.counts, first.areas.listing)
+
+
 def judged(program=None):
     """(good, what) for each case by the model and, if there is a program, by the product: there the areas and counts are the model's too."""
-    chosen = list(cases())
+    chosen = list(cases()) + list(laid_out_pending())
     by_model = [product.by_model(call) for _, call, _ in chosen]
     for (title, call, expected), answer in zip(chosen, by_model):
         yield answer[:2] == expected and areas_hold(call, answer), "by the model: %s: %r, expected %r" % (title, answer[:3], expected)

@@ -9,6 +9,7 @@
  * holds no state, so calls in several threads do not disturb each other.
  *
  * Machine stack. 8 MiB are enough for every call; the main thread has them as a rule, other threads often have less.
+ * tilusorgu_layout_pending was measured to need at most 4 KiB, whatever the document: it has no deep calls.
  *
  * Answers. Each call returns the refusal number, 0 for none, and fills `out`, eight numbers of 64 bits:
  *
@@ -50,7 +51,8 @@ enum tilusorgu_number {
     TILUSORGU_GIVEN = 9,         /* a given document breaks a row rule, or its counts; place: the first such row, 0 for counts */
     TILUSORGU_ROW_AREA = 20,     /* row area full; place: document rows written so far */
     TILUSORGU_TEXT_AREA = 21,    /* text area full; place: document rows written so far */
-    TILUSORGU_LISTING_AREA = 22  /* the listing is longer than its area; place 0 */
+    TILUSORGU_LISTING_AREA = 22, /* the listing is longer than its area; place 0 */
+    TILUSORGU_PENDING_AREA = 30  /* the pending area has fewer than three words for each document row; place 0 */
 };
 
 /* Limits. */
@@ -58,6 +60,7 @@ enum tilusorgu_number {
 #define TILUSORGU_TABLE_ROWS 65536u      /* rows of each of a pool's tables */
 #define TILUSORGU_DOCUMENT_ROWS 16384u   /* rows of a document */
 #define TILUSORGU_ROW_WORDS 7u           /* words of a document row: a row area of 7 * 16,384 words is never full */
+#define TILUSORGU_PENDING_WORDS 3u       /* words of a pending row: a pending area of 3 * 16,384 words is never too short (30) */
 #define TILUSORGU_DOCUMENT_BYTES 65536u  /* text bytes of a document: a text area of so many bytes is never full */
 #define TILUSORGU_INDENT 64u             /* greatest indent */
 #define TILUSORGU_WIDTH 65535u           /* greatest width, in bytes */
@@ -67,7 +70,7 @@ enum tilusorgu_number {
  * Bytes that are enough for every listing of a document of at most so many rows and text bytes, with nest amounts of at most
  * `indent`: a listing area of this length is never too short (22). A print's document has no more rows (row_words / 7) and text bytes
  * than the areas that it was lent, else 20 or 21, and its nest amounts are the print's indent; those of a document that is given to
- * tilusorgu_layout are at most TILUSORGU_INDENT. A listing is written from its area's start and nothing past it is touched, so of a
+ * a layout are at most TILUSORGU_INDENT. A listing is written from its area's start and nothing past it is touched, so of a
  * long area that the system gives page by page only what is written costs memory.
  *
  * Why it is enough. A listing has each text once, and for each break at most one blank, or a newline and its nest in spaces, which is
@@ -133,6 +136,22 @@ uint32_t tilusorgu_print_declar(const uint8_t *bytes, size_t byte_count, const u
  */
 uint32_t tilusorgu_layout(const uint32_t *rows, size_t row_words, uint64_t row_count, const uint8_t *text, size_t text_bytes,
                           uint64_t text_count, uint32_t width, uint8_t *listing, size_t listing_bytes, uint64_t *out, size_t out_count);
+
+/*
+ * Lays out a given document as tilusorgu_layout does, with the same answers, counts and listing, but without calls as deep as the document:
+ * the rows that are still to be laid out stand in a lent area, and loops alone go over them.
+ * Given: rows, row_count, text, text_count, width. Lent: pending (three words for each document row, 3 * row_count in all), listing.
+ *
+ * Refuses 9, then 6 (width), then 30 (pending has fewer than 3 * row_count words), then 22.
+ *
+ * What the lent areas hold afterwards; what pending held before does not matter:
+ *     9, 6, 30    both as they were
+ *     22          pending: all zero, past the first 3 * row_count words too; listing: the first bytes of the full listing, as many as fit
+ *     success     pending: all zero, likewise; listing: the listing, and past its length as it was
+ */
+uint32_t tilusorgu_layout_pending(const uint32_t *rows, size_t row_words, uint64_t row_count, const uint8_t *text, size_t text_bytes,
+                                  uint64_t text_count, uint32_t width, uint32_t *pending, size_t pending_words, uint8_t *listing,
+                                  size_t listing_bytes, uint64_t *out, size_t out_count);
 
 /* What tilusorgu_hand_out hands out. */
 enum tilusorgu_kind {

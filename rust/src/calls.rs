@@ -8,6 +8,10 @@ use std::ops::Range;
 pub const ROW_WORDS: usize = 7;
 /// A row area of this many words is never full.
 pub const MOST_ROW_WORDS: usize = ROW_WORDS * 16_384;
+/// Words of the pending area for each document row.
+pub const PENDING_WORDS: usize = 3;
+/// A pending area of this many words is never too short: a document of more rows than 16,384 is refused 9 before it is looked at.
+pub const MOST_PENDING_WORDS: usize = PENDING_WORDS * 16_384;
 /// A text area of this many bytes is never full.
 pub const MOST_TEXT_BYTES: usize = 65_536;
 
@@ -46,7 +50,7 @@ pub struct Lent<'a> {
     pub listing: &'a mut [u8],
 }
 
-/// A document that is given to [`layout`] or [`text_part`]: the first rows and bytes of two slices.
+/// A document that is given to a layout or to [`text_part`]: the first rows and bytes of two slices.
 #[derive(Clone, Copy, Debug, Default)]
 pub struct Given<'a> {
     pub rows: &'a [u32],
@@ -118,8 +122,41 @@ pub fn print_declar(bytes: &[u8], words: &[u32], root: u32, sizes: Sizes, lent: 
     print(bytes, words, Root::Declar(root), sizes, lent)
 }
 
-/// Lays out a given document. Refuses 9, 6 and 22.
+/// Lays out a given document, with a pending area of its own: 192 KiB at most, no thread and no deep machine stack. Refuses 9, 6 and 22.
 pub fn layout(given: Given<'_>, width: u32, listing: &mut [u8]) -> Result<Counts, Refusal> {
+    // Whatever the count says, no more than 16,384 rows are ever laid out.
+    let words = given.row_count.saturating_mul(PENDING_WORDS as u64).min(MOST_PENDING_WORDS as u64);
+    layout_pending(given, width, &mut vec![0; words as usize], listing)
+}
+
+/// [`layout`] with a lent pending area of at least three words for each document row, which is left zero. Refuses 9, 6, 30 and 22.
+///
+/// It runs right here and not in [`with_stack`]: it goes over the document in loops, so a few KiB of machine stack are enough for it.
+pub fn layout_pending(given: Given<'_>, width: u32, pending: &mut [u32], listing: &mut [u8]) -> Result<Counts, Refusal> {
+    let mut out = [0; 8];
+    // Sound: as above; that the counts may exceed their slices, or the pending area, is for the call to refuse.
+    let number = unsafe {
+        raw::tilusorgu_layout_pending(
+            given.rows.as_ptr(),
+            given.rows.len(),
+            given.row_count,
+            given.text.as_ptr(),
+            given.text.len(),
+            given.text_count,
+            width,
+            pending.as_mut_ptr(),
+            pending.len(),
+            listing.as_mut_ptr(),
+            listing.len(),
+            out.as_mut_ptr(),
+            8,
+        )
+    };
+    answer(number, &out)
+}
+
+/// The layout that came first: it answers as [`layout`] does, but by calls as deep as the document is nested, in [`with_stack`]. Refuses 9, 6 and 22.
+pub fn layout_deep(given: Given<'_>, width: u32, listing: &mut [u8]) -> Result<Counts, Refusal> {
     let mut out = [0; 8];
     // Sound: as above; that the counts may exceed their slices is for the call to refuse.
     let number = with_stack(|| unsafe {

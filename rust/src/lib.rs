@@ -7,6 +7,19 @@
 //! let listing = packed.pool.list_declar(0, Sizes::default()).unwrap();
 //! assert_eq!(listing.text, "axiom k (n : @Nat) : @P n");
 //! ```
+//!
+//! A print leaves its document, which [`calls::layout`] lays out at other widths; that alone needs no thread with a deep stack ([`with_stack`]).
+//!
+//! ```
+//! use tilusorgu::{calls, text, Areas, Root, Sizes};
+//!
+//! let packed = text::pack("(axiom k (forall (n : @Nat) (@P n)))", text::Sharing::Shared).unwrap();
+//! let mut areas = Areas::default();
+//! let counts = areas.print(&packed.pool, Root::Declar(0), Sizes::default()).unwrap();
+//! let mut listing = [0; 99];
+//! let narrow = calls::layout(areas.document(&counts), 20, &mut listing).unwrap();
+//! assert_eq!(listing[..narrow.listing_length as usize], *b"axiom k (n : @Nat) :\n  @P n");
+//! ```
 pub mod calls;
 mod declar_names;
 mod listing;

@@ -49,6 +49,21 @@ extern "C" {
         out: *mut u64,
         out_count: usize,
     ) -> u32;
+    pub fn tilusorgu_layout_pending(
+        rows: *const u32,
+        row_words: usize,
+        row_count: u64,
+        text: *const u8,
+        text_bytes: usize,
+        text_count: u64,
+        width: u32,
+        pending: *mut u32,
+        pending_words: usize,
+        listing: *mut u8,
+        listing_bytes: usize,
+        out: *mut u64,
+        out_count: usize,
+    ) -> u32;
     pub fn tilusorgu_hand_out(
         bytes: *const u8,
         byte_count: usize,

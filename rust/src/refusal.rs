@@ -24,6 +24,7 @@ impl Refusal {
             20 => "the row area is full",
             21 => "the text area is full",
             22 => "the listing is longer than its area",
+            30 => "the pending area has fewer than three words for each document row",
             _ => "no rule has this number",
         }
     }

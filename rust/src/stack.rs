@@ -9,8 +9,8 @@ thread_local!(static ENOUGH: Cell<bool> = const { Cell::new(false) });
 
 /// Runs a task in a thread with enough machine stack for every call, or right here if this is such a thread already.
 ///
-/// Every call of this crate goes through here, so none can run out of stack; a program that makes many of them puts this round all
-/// of them once, which saves a thread for each.
+/// Every call of this crate goes through here, but for `calls::layout` and `calls::layout_pending`, which need next to no stack: so none can
+/// run out of it. A program that makes many calls puts this round all of them once, which saves a thread for each.
 ///
 /// # Panics
 /// If the task does, or if the system gives no thread.

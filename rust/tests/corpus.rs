@@ -6,7 +6,7 @@ use recorded::Print;
 use tilusorgu::text::{pack, Sharing};
 use tilusorgu::{calls, with_stack, Areas, Counts, Given, Lent, Pool, Root, Sizes};
 
-/// Prints into areas of exactly the recorded lengths, and lays the document out again.
+/// Prints into areas of exactly the recorded lengths, and lays the document out again, by deep calls and with a pending area.
 fn assert_print(pool: &Pool, print: &Print) {
     let c = print.counts;
     let (mut rows, mut text) = (vec![1; 7 * c.document_rows as usize], vec![1; c.text_bytes as usize]);
@@ -19,8 +19,12 @@ fn assert_print(pool: &Pool, print: &Print) {
     }
     let given = Given { rows: &rows, row_count: c.document_rows, text: &text, text_count: c.text_bytes };
     listing.fill(1);
-    assert_eq!(calls::layout(given, print.sizes.width, &mut listing), Ok(c));
+    assert_eq!(calls::layout_deep(given, print.sizes.width, &mut listing), Ok(c));
     assert!(listing == print.listing);
+    let mut pending = vec![1; 3 * c.document_rows as usize];
+    listing.fill(1);
+    assert_eq!(calls::layout_pending(given, print.sizes.width, &mut pending, &mut listing), Ok(c));
+    assert!(listing == print.listing && pending.iter().all(|&word| word == 0));
 }
 
 #[test]

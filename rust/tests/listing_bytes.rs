@@ -7,7 +7,7 @@ use std::io::Write;
 use std::path::{Path, PathBuf};
 use std::process::{Command, Stdio};
 use tilusorgu::text::{pack, Sharing};
-use tilusorgu::{calls, with_stack, Areas, Given, Root, Sizes, Table};
+use tilusorgu::{calls, Areas, Given, Root, Sizes, Table};
 
 fn top() -> PathBuf {
     Path::new(env!("CARGO_MANIFEST_DIR")).join("..")
@@ -85,7 +85,7 @@ fn longest_listings() {
         let longest = (1..=row_count.div_ceil(2)).max_by_key(|&breaks| length(breaks)).unwrap();
         let rows = nested_breaks(longest as u32, (row_count + 1 - 2 * longest) as u32, amount as u32);
         let given = Given { rows: &rows, row_count, text: &[], text_count: 0 };
-        let counts = with_stack(|| calls::layout(given, 0, &mut listing)).unwrap();
+        let counts = calls::layout(given, 0, &mut listing).unwrap();
         assert_eq!((counts.document_rows, counts.listing_length), (row_count, length(longest)));
         let enough = enough("longest_listings", &[[row_count, 0, amount]])[0];
         let spare = (row_count + amount) / 2 + 2;

@@ -198,16 +198,24 @@ const GIVEN: [u32; 49] = [
     1,
 ];
 
+type Layout = fn(Given<'_>, u32, &mut [u8]) -> Result<Counts, Refusal>;
+
+/// What both layouts answer and leave in a listing area of this length.
 fn laid(rows: &[u32], row_count: u64, text_count: u64, width: u32, length: usize) -> (Result<Counts, Refusal>, Vec<u8>) {
-    let mut listing = Guarded::new(length, 0x5c, 0xa5);
-    let answer = calls::layout(Given { rows, row_count, text: b"abc", text_count }, width, listing.area());
-    assert!(listing.intact());
-    match answer {
-        Ok(counts) => assert!(listing.untouched_from(counts.listing_length as usize)),
-        Err(Refusal { number: 9 | 6, .. }) => assert!(listing.untouched_from(0)),
-        Err(other) => assert_eq!(other.number, 22),
-    }
-    (answer, listing.seen().to_vec())
+    let given = Given { rows, row_count, text: b"abc", text_count };
+    let [first, second] = [calls::layout_deep as Layout, calls::layout].map(|layout| {
+        let mut listing = Guarded::new(length, 0x5c, 0xa5);
+        let answer = layout(given, width, listing.area());
+        assert!(listing.intact());
+        match answer {
+            Ok(counts) => assert!(listing.untouched_from(counts.listing_length as usize)),
+            Err(Refusal { number: 9 | 6, .. }) => assert!(listing.untouched_from(0)),
+            Err(other) => assert_eq!(other.number, 22),
+        }
+        (answer, listing.seen().to_vec())
+    });
+    assert_eq!(first, second);
+    first
 }
 
 #[test]
@@ -241,7 +249,7 @@ fn layout_6_and_22() {
 fn refusals_in_words() {
     assert_eq!(refusal(5, 0).to_string(), "refused 5: the pool has no such root");
     assert_eq!(refusal(7, 12).to_string(), "refused 7 (expression row 12): a chain of binders or a let brings the names in force over 1,024");
-    for number in [1, 2, 3, 4, 5, 6, 7, 8, 9, 20, 21, 22] {
+    for number in [1, 2, 3, 4, 5, 6, 7, 8, 9, 20, 21, 22, 30] {
         assert_ne!(refusal(number, 0).rule(), refusal(0, 0).rule());
     }
 }

@@ -1,14 +1,15 @@
 // The check of a given document: its counts, then the row rules, rows rising, then the whole-document rule (number 9).
 use crate::measures::Measures;
 use crate::measures::joined;
-use crate::measures::left_of;
-use crate::measures::measures_at;
+use crate::measures::measures_in;
 use crate::measures::word_at;
+use crate::measures::word_in;
 use crate::measures::wrapped;
 use basics::bools::both;
 use basics::numbers::less;
 ghost use mathlib.Core.Path.{_≡_};
-ghost use Prim.Native.Nat.{_<_, _≤_};
+ghost use Prim.Native.Nat.{_+_, _*_, _<_, _≤_};
+ghost use lib.ListN.{length};
 ghost use Rattle.document.specs.Rows.{word, fieldsOk, derived, ruleOk, ownText, fault, countsOk};
 
 // Whether the counts are within the slices and the limits, and there is a row.
@@ -26,17 +27,17 @@ pub fn counts_ok(words: usize, count: usize, bytes: usize, total: usize) -> bool
 
 // The rule of the kind and the two fields of row r, with `before` text bytes before it, of `total`.
 fn fields_ok(rows: &[u32], total: usize, before: usize, r: usize) -> bool
-    requires { ⌜ before ≤ 70368744177664 ⌝ }
+    requires { ⌜ (before ≤ 70368744177664) × (r * 7 + 7 ≤ length (now rows)) ⌝ }
     ensures { λ v. ⌜ v ≡ fieldsOk (now (rows .entry)) total before r (word (now (rows .entry)) r 0) ⌝ }
 {
-    let kind = word_at(rows, r, 0);
-    let a = word_at(rows, r, 1);
-    let b = word_at(rows, r, 2);
+    let kind = word_in(rows, r, 0);
+    let a = word_in(rows, r, 1);
+    let b = word_in(rows, r, 2);
     if kind == 0 {
         return both(a == before, before + b <= total);
     }
     if kind == 1 {
-        return both(word_at(rows, less(r, 1), 3) < r, both(a == 0, b == 0));
+        return both(word_in(rows, less(r, 1), 3) < r, both(a == 0, b == 0));
     }
     if kind == 2 {
         return both(a < 2, b == 0);
@@ -49,11 +50,12 @@ fn fields_ok(rows: &[u32], total: usize, before: usize, r: usize) -> bool
 
 // The measures that row r must have.
 fn derived_at(rows: &[u32], r: usize) -> Measures
+    requires { ⌜ r * 7 + 7 ≤ length (now rows) ⌝ }
     ensures { λ v. ⌜ v ≡ derived (now (rows .entry)) r (word (now (rows .entry)) r 0) ⌝ }
 {
-    let kind = word_at(rows, r, 0);
+    let kind = word_in(rows, r, 0);
     if kind == 0 {
-        let size = word_at(rows, r, 2);
+        let size = word_in(rows, r, 2);
         return Measures {
             count: 1,
             flat: size,
@@ -62,7 +64,7 @@ fn derived_at(rows: &[u32], r: usize) -> Measures
         };
     }
     if kind == 2 {
-        let blank = word_at(rows, r, 1);
+        let blank = word_in(rows, r, 1);
         return Measures {
             count: 1,
             flat: blank,
@@ -70,9 +72,10 @@ fn derived_at(rows: &[u32], r: usize) -> Measures
             has: 1,
         };
     }
-    let last = measures_at(rows, less(r, 1));
+    let right = less(r, 1);
+    let last = measures_in(rows, right);
     if kind == 1 {
-        let left = measures_at(rows, left_of(rows, r));
+        let left = measures_in(rows, less(right, last.count));
         return joined(left, last);
     }
     wrapped(last)
@@ -89,19 +92,20 @@ fn same(a: Measures, b: Measures) -> bool
 
 // Whether row r keeps the row rules, with `before` text bytes before it.
 fn row_ok(rows: &[u32], total: usize, before: usize, r: usize) -> bool
-    requires { ⌜ before ≤ 70368744177664 ⌝ }
+    requires { ⌜ (before ≤ 70368744177664) × (r * 7 + 7 ≤ length (now rows)) ⌝ }
     ensures { λ v. ⌜ v ≡ ruleOk (now (rows .entry)) total before r (word (now (rows .entry)) r 0) ⌝ }
 {
     let fields = fields_ok(rows, total, before, r);
-    both(fields, same(measures_at(rows, r), derived_at(rows, r)))
+    both(fields, same(measures_in(rows, r), derived_at(rows, r)))
 }
 
 // The text bytes of row r itself.
 fn own_text(rows: &[u32], r: usize) -> usize
+    requires { ⌜ r * 7 + 7 ≤ length (now rows) ⌝ }
     ensures { λ v. ⌜ (v ≡ ownText (now (rows .entry)) r (word (now (rows .entry)) r 0)) × (v < 4294967296) ⌝ }
 {
-    if word_at(rows, r, 0) == 0 {
-        word_at(rows, r, 2)
+    if word_in(rows, r, 0) == 0 {
+        word_in(rows, r, 2)
     } else {
         0
     }
@@ -109,7 +113,7 @@ fn own_text(rows: &[u32], r: usize) -> usize
 
 // The first faulty row of `count` rows, or `count`.
 pub fn find_fault(rows: &[u32], total: usize, count: usize) -> usize
-    requires { ⌜ count ≤ 16384 ⌝ }
+    requires { ⌜ (count ≤ 16384) × (count * 7 ≤ length (now rows)) ⌝ }
     ensures { λ v. ⌜ v ≡ fault (now (rows .entry)) total count ⌝ }
 {
     let mut i: usize = 0;

@@ -1,7 +1,8 @@
 // The words of rows, and the measures of a row's subtree: its last four words.
 use basics::numbers::less;
 ghost use mathlib.Core.Path.{_≡_};
-ghost use Prim.Native.Nat.{_+_, _-_, _<_, _≤_};
+ghost use Prim.Native.Nat.{_+_, _-_, _*_, _<_, _≤_};
+ghost use lib.ListN.{length};
 ghost use Rattle.document.specs.Doc.{either};
 ghost use Rattle.document.specs.Rows.{word, leftOf, measuresAt, Small};
 
@@ -24,12 +25,21 @@ pub fn word_at(rows: &[u32], r: usize, k: usize) -> usize
     if i < rows.len() { rows[i] as usize } else { 0 }
 }
 
-// The row of the left child of a join at row r.
+// The same of a row that lies in the area, without a test.
+pub fn word_in(rows: &[u32], r: usize, k: usize) -> usize
+    requires { ⌜ (k < 7) × (r * 7 + 7 ≤ length (now rows)) ⌝ }
+    ensures { λ v. ⌜ (v ≡ word (now (rows .entry)) r k) × (v < 4294967296) ⌝ }
+{
+    rows[r * 7 + k] as usize
+}
+
+// The row of the left child of a join at row r, whose right one lies in the area.
 pub fn left_of(rows: &[u32], r: usize) -> usize
+    requires { ⌜ (0 < r) × (r * 7 ≤ length (now rows)) ⌝ }
     ensures { λ v. ⌜ v ≡ leftOf (now (rows .entry)) r ⌝ }
 {
-    let right = less(r, 1);
-    less(right, word_at(rows, right, 3))
+    let right = r - 1;
+    less(right, word_in(rows, right, 3))
 }
 
 // Each word by itself: the row may lie past the area, or partly.
@@ -48,29 +58,31 @@ fn measures_by_word(rows: &[u32], r: usize) -> Measures
     }
 }
 
-fn wide(x: u32) -> usize
-    ensures { λ v. ⌜ (v ≡ x) × (v < 4294967296) ⌝ }
-{
-    x as usize
-}
-
-pub fn measures_at(rows: &[u32], r: usize) -> Measures
+// The same of a row that lies in the area, without tests.
+pub fn measures_in(rows: &[u32], r: usize) -> Measures
+    requires { ⌜ r * 7 + 7 ≤ length (now rows) ⌝ }
     ensures { λ v. ⌜ (v ≡ measuresAt (now (rows .entry)) r) × Small v ⌝ }
 {
-    if rows.len() / 7 <= r {
-        return measures_by_word(rows, r);
-    }
-    let at = r * 7;
-    let count = wide(rows[at + 3]);
-    let flat = wide(rows[at + 4]);
-    let first = wide(rows[at + 5]);
-    let has = wide(rows[at + 6]);
+    let count = word_in(rows, r, 3);
+    let flat = word_in(rows, r, 4);
+    let first = word_in(rows, r, 5);
+    let has = word_in(rows, r, 6);
     Measures {
         count,
         flat,
         first,
         has,
     }
+}
+
+// Of any row: most lie in the area.
+pub fn measures_at(rows: &[u32], r: usize) -> Measures
+    ensures { λ v. ⌜ (v ≡ measuresAt (now (rows .entry)) r) × Small v ⌝ }
+{
+    if rows.len() / 7 <= r {
+        return measures_by_word(rows, r);
+    }
+    measures_in(rows, r)
 }
 
 // The distance to the first break from the start of a part, where it is `after` at the part's end.

@@ -271,7 +271,8 @@ pub fn put_group(rows: &mut [u32], text: &mut [u8], s: Sink) -> Sink
     put_wrapped(rows, text, s, 4, 0)
 }
 
-fn clear_words(area: &mut [u32])
+// All words to zero.
+pub fn clear_words(area: &mut [u32])
     ensures { λ _. ⌜ now (area .exit) ≡ replicate (length (now (area .entry))) 0 ⌝ }
 {
     let mut i = 0;

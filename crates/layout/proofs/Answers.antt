@@ -1,26 +1,29 @@
--- What `layout` and `layout_accepted` answer, from what `lay_out` gives.
+-- What `report`, `admit` and the layouts answer, from what `lay_out` gives.
 use Prim.Native.Nat.{ℕ, _+_, _-_, _≤_, _<_, max}
 use native.Mathlib.Omega.{arith}
 use native.Mathlib.Nat.{add-zero, zero-add}
 use native.Mathlib.Numerals.{add-one}
 use mathlib.Core.Bool.{Bool, true, false, cond}
 use mathlib.Core.List.{List, [], _∷_, _++_}
-use mathlib.Core.Path.{_≡_, refl, sym, ap, ap₂, _∙_}
+use mathlib.Core.Path.{_≡_, refl, sym, ap, ap₂, _∙_, subst}
 use lib.ListN.{length, take, getD}
 use lib.Seq.{take-suc, take-all}
 use lib.Dec.{ltb, eqb}
-use borrow.Author.Tests.{lt-ltb, le-ltb}
+use borrow.Author.Tests.{lt-ltb, le-ltb, ltb-false}
 use Rattle.document.specs.Rows.{fault, countsOk, Accepted}
 use Rattle.document.proofs.Faults.{fault-bound, accepted-counts, accepted-sound}
 use Rattle.layout.specs.declared.cursor.Cursor.{Cursor}
-use Rattle.layout.specs.declared.Counts.{Counts}
 use Rattle.layout.specs.declared.Laid.{Laid}
-use Rattle.layout.specs.declared.Laid.the-variants.{Done, Document, Width, Listing}
+use Rattle.layout.specs.declared.Laid.the-variants.{Done, Listing}
+use Rattle.layout.specs.declared.Laid.the-variants as laids
+use Rattle.layout.specs.declared.Admission.{Admission}
+use Rattle.layout.specs.declared.Admission.the-variants as admissions
 use Rattle.layout.specs.Layout.{Piece, textᵖ, blankᵖ, newlineᵖ, testᵖ, after, run, start, pieces}
 use Rattle.layout.specs.Listing.{bytesOf, countOf, lines, longestRow, testsIn}
 use Rattle.layout.specs.Paint.{paint}
 use Rattle.layout.specs.Call.{countsOf, untouched, listed, docOf, outcome}
-use Rattle.layout.specs.Contract.{Emitteds, Room, LaidOut}
+use Rattle.layout.specs.Contract.{Emitteds, Given, Room, LaidOut, admission, counted, reported}
+use Rattle.layout.proofs.Painting.{length-paint}
 use Rattle.layout.proofs.Pieces.{run-position}
 
 -- ---- counting a byte
@@ -83,25 +86,34 @@ written [] (y ∷ s) h = absurd (omega arith)
 written (x ∷ l) [] h = refl
 written (x ∷ l) (y ∷ s) h = ap (λ (t : List ℕ). y ∷ t) (written l s (omega arith))
 
+-- ---- `report`
+
+module _ (v : Cursor) (count total : ℕ) (l : List ℕ) where
+  pub reported-short : length l < v .position → Listing ≡ reported v count total l
+  reported-short h = sym (rw (lt-ltb (length l) (v .position) h))
+
+  pub reported-done : (n m : ℕ) → v .position ≤ length l → n ≡ countOf 10 (take (v .position) l) → m ≡ n + 1
+      → Done (record { rows = count; text = total; length = v .position; lines = m; longest = v .longest; tests = v .tests }) ≡ reported v count total l
+  reported-done n m h e f = sym (rw (le-ltb (length l) (v .position) h, ← e, ← f))
+
 -- ---- `layout_accepted`
 
--- the counts as the code has them: from the last cursor, and m lines
-abbrev pub counted : ℕ → ℕ → Cursor → ℕ → Counts
-counted count total v m =
-    record { rows = count; text = total; length = v .position; lines = m; longest = v .longest; tests = v .tests }
-
 module _ (rows : List ℕ) (count : ℕ) (texts : List ℕ) (total width : ℕ) (accepted : Accepted rows count texts total) (narrow : width ≤ 65535) where
+  pub accepted-given : Given rows texts width total count
+  accepted-given =
+      let k = accepted-counts accepted in
+      record { valid = accepted-sound accepted .valid; long = k .long; few = k .few; size = k .within; small = k .small; narrow = narrow }
+
   pub whole-room : Room rows texts (count - 1) width 0 0 (start width)
   whole-room =
       let k = accepted-counts accepted in
       let p = k .pos in
       let f = k .few in
-      let s = accepted-sound accepted in
-      let l = s .last in
+      let l = accepted-sound accepted .last in
       record {
         total = total;
         count = count;
-        given = record { valid = s .valid; long = k .long; few = k .few; size = k .within; small = k .small; narrow = narrow };
+        given = accepted-given;
         below = omega arith;
         steady = omega arith;
         position-room = omega arith;
@@ -110,63 +122,100 @@ module _ (rows : List ℕ) (count : ℕ) (texts : List ℕ) (total width : ℕ) 
         test-room = omega arith;
       }
 
-  module _ (v : Cursor) (l l′ : List ℕ) (laid : LaidOut rows texts (count - 1) width 0 false 0 (start width) v l l′) where
-    abbrev ps : List Piece
-    ps = pieces width (docOf rows count texts)
+  pub whole-emitted : (v : Cursor) (l l′ : List ℕ) → LaidOut rows texts (count - 1) width 0 false 0 (start width) v l l′
+      → Emitteds width (pieces width (docOf rows count texts)) (start width) v l l′
+  unfolding pieces
+  whole-emitted v l l′ laid = laid .laid count (let p = accepted-counts accepted .pos in omega arith)
 
-    emitted : Emitteds width ps (start width) v l l′
-    unfolding pieces
-    emitted = laid .laid count (let p = accepted-counts accepted .pos in omega arith)
+-- once all pieces are emitted, what is reported is what is listed
+module _ (width : ℕ) (ps : List Piece) (v : Cursor) (l l′ : List ℕ) (emitted : Emitteds width ps (start width) v l l′) (count total : ℕ) where
+  position-is : v .position ≡ length (bytesOf ps)
+  position-is = ap (λ (x : Cursor). x .position) (emitted .cursor) ∙ run-position width (start width) ps ∙ zero-add (length (bytesOf ps))
 
-    position-is : v .position ≡ length (bytesOf ps)
-    position-is = ap (λ (x : Cursor). x .position) (emitted .cursor) ∙ run-position width (start width) ps ∙ zero-add (length (bytesOf ps))
+  length-is : length l′ ≡ length l
+  length-is = ap length (emitted .bytes) ∙ length-paint l 0 (bytesOf ps)
 
-    abbrev full : Laid
-    full = Done (countsOf count total ps)
+  abbrev full : Laid
+  full = Done (countsOf count total ps)
 
-    answer-is : (a : Laid) → a ≡ cond (ltb (length l) (length (bytesOf ps))) Listing full → record { answer = a; listing = l′ } ≡ listed count total ps l
-    unfolding listed
-    answer-is a e = ap₂ (λ (x : Laid) (y : List ℕ). record { answer = x; listing = y }) e (emitted .bytes)
+  counts-are : length (bytesOf ps) ≤ length l → Done (counted v count total (take (v .position) l′)) ≡ full
+  counts-are s =
+      let a = position-is in
+      let b : take (v .position) l′ ≡ bytesOf ps = ap₂ take a (emitted .bytes) ∙ written l (bytesOf ps) s in
+      let o : v .longest ≡ longestRow 0 ps =
+      ap (λ (x : Cursor). x .longest) (emitted .cursor) ∙ run-longest width (start width) 0 ps (omega arith) (omega arith) ∙ omega arith in
+      let t : v .tests ≡ testsIn ps = ap (λ (x : Cursor). x .tests) (emitted .cursor) ∙ run-tests width (start width) ps ∙ zero-add (testsIn ps) in
+      let g : lines (take (v .position) l′) ≡ lines (bytesOf ps) = ap lines b in
+      rw (g, o, t, a)
 
-    pub answer-short : length l < v .position → record { answer = Listing; listing = l′ } ≡ listed count total ps l
-    answer-short h =
-        let e = position-is in
-        let s : length l < length (bytesOf ps) = omega arith in
-        answer-is Listing (ap (λ (b : Bool). cond b Listing full) (sym (lt-ltb (length l) (length (bytesOf ps)) s)))
+  answer-is : reported v count total l′ ≡ cond (ltb (length l) (length (bytesOf ps))) Listing full
+  answer-is =
+      ap₂ (λ (x y : ℕ). cond (ltb x y) Listing (Done (counted v count total (take (v .position) l′)))) length-is position-is
+      ∙ by (ltb (length l) (length (bytesOf ps))) refl
+    where
+      by : (b : Bool) → ltb (length l) (length (bytesOf ps)) ≡ b
+          → cond b Listing (Done (counted v count total (take (v .position) l′))) ≡ cond b Listing full
+      by true e = refl
+      by false e = counts-are (ltb-false _ _ e)
 
-    pub answer-done : (n m : ℕ) → v .position ≤ length l → n ≡ countOf 10 (take (v .position) l′) → m ≡ n + 1
-        → record { answer = Done (counted count total v m); listing = l′ } ≡ listed count total ps l
-    answer-done n m h e f =
-        let a = position-is in
-        let s : length (bytesOf ps) ≤ length l = omega arith in
-        let b : take (v .position) l′ ≡ bytesOf ps = ap₂ take a (emitted .bytes) ∙ written l (bytesOf ps) s in
-        let o : v .longest ≡ longestRow 0 ps =
-        ap (λ (x : Cursor). x .longest) (emitted .cursor) ∙ run-longest width (start width) 0 ps (omega arith) (omega arith) ∙ omega arith in
-        let t : v .tests ≡ testsIn ps = ap (λ (x : Cursor). x .tests) (emitted .cursor) ∙ run-tests width (start width) ps ∙ zero-add (testsIn ps) in
-        let g : m ≡ lines (bytesOf ps) = f ∙ ap (λ (x : ℕ). x + 1) (e ∙ ap (countOf 10) b) in
-        let d : Done (counted count total v m) ≡ full = rw (a, g, o, t) in
-        answer-is _ (d ∙ ap (λ (b : Bool). cond b Listing full) (sym (le-ltb (length l) (length (bytesOf ps)) s)))
+  pub reported-listed : (a : Laid) → a ≡ reported v count total l′ → record { answer = a; listing = l′ } ≡ listed count total ps l
+  unfolding listed
+  reported-listed a e = ap₂ (λ (x : Laid) (y : List ℕ). record { answer = x; listing = y }) (e ∙ answer-is) (emitted .bytes)
 
--- ---- `layout`
+-- ---- `admit`, `layout`
 
-module _ (rows : List ℕ) (count : ℕ) (texts : List ℕ) (total width : ℕ) (l : List ℕ) where
-  pub answer-counts : countsOk (length rows) count (length texts) total ≡ false → record { answer = Document 0; listing = l } ≡ outcome rows count texts total width l
-  unfolding outcome untouched
-  answer-counts e = sym (rw e)
+-- an admitted document and width keep the rules; where they are not admitted, `outcome` is that, and the area as it was
+abbrev pub Admits : List ℕ → ℕ → List ℕ → ℕ → ℕ → Admission → Type 0
+Admits rows count texts total width admissions.Admitted = Accepted rows count texts total × (width ≤ 65535)
+Admits rows count texts total width (admissions.Document row) =
+    (area : List ℕ) → untouched (laids.Document row) area ≡ outcome rows count texts total width area
+Admits rows count texts total width admissions.Width = (area : List ℕ) → untouched laids.Width area ≡ outcome rows count texts total width area
 
-  module _ (ok : countsOk (length rows) count (length texts) total ≡ true) where
-    pub answer-fault : (r : ℕ) → r ≡ fault rows total count → r < count → record { answer = Document r; listing = l } ≡ outcome rows count texts total width l
-    unfolding outcome untouched
-    answer-fault r e h = sym (rw (ok, ← e, lt-ltb r count h))
+module _ (rows : List ℕ) (count : ℕ) (texts : List ℕ) (total width : ℕ) where
+  abbrev counted-ok : Bool
+  counted-ok = countsOk (length rows) count (length texts) total
+
+  pub admission-counts : counted-ok ≡ false → admissions.Document 0 ≡ admission rows count texts total width
+  unfolding admission
+  admission-counts e = sym (rw e)
+
+  module _ (ok : counted-ok ≡ true) where
+    pub admission-fault : (r : ℕ) → r ≡ fault rows total count → r < count → admissions.Document r ≡ admission rows count texts total width
+    unfolding admission
+    admission-fault r e h = sym (rw (ok, ← e, lt-ltb r count h))
 
     pub no-fault : (r : ℕ) → r ≡ fault rows total count → count ≤ r → fault rows total count ≡ count
     no-fault r e h = let b = fault-bound rows total count in omega arith
 
     module _ (good : fault rows total count ≡ count) where
-      pub answer-width : 65535 < width → record { answer = Width; listing = l } ≡ outcome rows count texts total width l
-      unfolding outcome untouched
-      answer-width h = let m : count ≤ count = omega arith in sym (rw (ok, good, le-ltb count count m, lt-ltb 65535 width h))
+      whole-is : ltb (fault rows total count) count ≡ false
+      whole-is = let m : count ≤ fault rows total count = omega arith in le-ltb (fault rows total count) count m
 
-      pub answer-listed : width ≤ 65535 → listed count total (pieces width (docOf rows count texts)) l ≡ outcome rows count texts total width l
+      pub admission-width : 65535 < width → admissions.Width ≡ admission rows count texts total width
+      unfolding admission
+      admission-width h = sym (rw (ok, whole-is, lt-ltb 65535 width h))
+
+      pub admission-none : width ≤ 65535 → admissions.Admitted ≡ admission rows count texts total width
+      unfolding admission
+      admission-none h = sym (rw (ok, whole-is, le-ltb 65535 width h))
+
+      pub answer-listed : (l : List ℕ) → width ≤ 65535 → listed count total (pieces width (docOf rows count texts)) l ≡ outcome rows count texts total width l
       unfolding outcome
-      answer-listed h = let m : count ≤ count = omega arith in sym (rw (ok, good, le-ltb count count m, le-ltb 65535 width h))
+      answer-listed l h = sym (rw (ok, whole-is, le-ltb 65535 width h))
+
+  pub admission-means : Admits rows count texts total width (admission rows count texts total width)
+  unfolding admission outcome
+  admission-means = by counted-ok (ltb (fault rows total count) count) (ltb 65535 width) refl refl refl
+    where
+      by : (b d e : Bool) → counted-ok ≡ b → ltb (fault rows total count) count ≡ d → ltb 65535 width ≡ e
+          → Admits rows count texts total width
+          (cond b (cond d (admissions.Document (fault rows total count)) (cond e admissions.Width admissions.Admitted)) (admissions.Document 0))
+      by false d e p q r = λ l. sym (rw p)
+      by true true e p q r = λ l. sym (rw (p, q))
+      by true false true p q r = λ l. sym (rw (p, q, r))
+      by true false false p q r =
+          (record { counts = p; faultless = no-fault p (fault rows total count) refl (ltb-false _ _ q) }, ltb-false _ _ r)
+
+  -- of what `admit` gave, once it is known which case that is
+  pub means-of : {v a : Admission} → v ≡ a → v ≡ admission rows count texts total width → Admits rows count texts total width a
+  means-of e q = subst (Admits rows count texts total width) (sym q ∙ e) admission-means

@@ -1,10 +1,10 @@
 -- What `lay_out` asks of its calls and has from them, row kind by row kind.
-use Prim.Native.Nat.{ℕ, zero, suc, _+_, _-_, _≤_, _<_}
+use Prim.Native.Nat.{ℕ, zero, suc, _+_, _-_, _*_, _≤_, _<_}
 use native.Mathlib.Omega.{arith}
 use mathlib.Core.Bool.{Bool, true, false}
 use mathlib.Core.List.{List, [], _∷_}
 use mathlib.Core.Path.{_≡_, refl, sym, ap, ap₂, _∙_, subst}
-use lib.ListN.{take, drop, length-take}
+use lib.ListN.{length, take, drop, length-take}
 use lib.Dec.{leb}
 use Rattle.document.specs.Doc.{Doc, group, hasBreak, firstBreak, through}
 use Rattle.document.specs.Rows.{word, leftOf, node, docAt, Valid}
@@ -61,6 +61,12 @@ module _ {rows texts : List ℕ} {r w n next : ℕ} {c : Cursor} (room : Room ro
         test-bound = omega arith;
       }
 
+  pub row-inside : r * 7 + 7 ≤ length rows
+  row-inside =
+      let b = room .below in
+      let l = room .given .long in
+      omega arith
+
   -- ---- texts
 
   text-small : word rows r 0 ≡ 0 → word rows r 2 ≤ 65536
@@ -73,7 +79,7 @@ module _ {rows texts : List ℕ} {r w n next : ℕ} {c : Cursor} (room : Room ro
       let z = text-small e in
       let p = room .position-room in
       let q = room .given .narrow in
-      record { steady = room .steady; inside = omega arith; room = omega arith }
+      record { row = row-inside; steady = room .steady; inside = omega arith; room = omega arith }
 
   pub laid-text : (flat : Bool) (v : Cursor) (l l′ : List ℕ) → word rows r 0 ≡ 0 → Emitted w (textᵖ (textOf rows texts r)) c v l l′ → LaidOut rows texts r w n flat next c v l l′
   unfolding node layout
@@ -93,7 +99,7 @@ module _ {rows texts : List ℕ} {r w n next : ℕ} {c : Cursor} (room : Room ro
       let p = room .position-room in
       let q = room .nest-room in
       let o = room .given .narrow in
-      record { steady = room .steady; blank = omega arith; newline = omega arith }
+      record { row = row-inside; steady = room .steady; blank = omega arith; newline = omega arith }
 
   pub laid-break : (flat : Bool) (v : Cursor) (l l′ : List ℕ) → word rows r 0 ≡ 2 → Emitted w (placed flat (word rows r 1) n) c v l l′ → LaidOut rows texts r w n flat next c v l l′
   unfolding node layout
@@ -109,11 +115,14 @@ module _ {rows texts : List ℕ} {r w n next : ℕ} {c : Cursor} (room : Room ro
 
   -- ---- joins
 
-  pub next-asks : word rows r 0 ≡ 1 → (0 < r) × (next < 4611686018427387904)
-  next-asks e =
-      let p = room .next-room in
+  pub left-asks : word rows r 0 ≡ 1 → (0 < r) × (r * 7 ≤ length rows)
+  left-asks e =
       let j = join-right rows total count valid r (room .below) e in
+      let i = row-inside in
       (omega arith, omega arith)
+
+  pub next-asks : word rows r 0 ≡ 1 → ((0 < r) × (r * 7 ≤ length rows)) × (next < 4611686018427387904)
+  next-asks e = let p = room .next-room in (left-asks e, omega arith)
 
   room-left₀ : (past : ℕ) → word rows r 0 ≡ 1 → past < next + 4294967296 → Room rows texts (leftOf rows r) w n past c
   room-left₀ past e h =

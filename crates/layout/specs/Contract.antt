@@ -1,14 +1,20 @@
 -- What the functions of the layout ask and ensure.
 use Prim.Native.Nat.{ℕ, _+_, _-_, _*_, _<_, _≤_}
-use mathlib.Core.Bool.{Bool}
+use mathlib.Core.Bool.{Bool, cond}
 use mathlib.Core.List.{List}
 use mathlib.Core.Path.{_≡_}
 use lib.ListN.{length, take, drop}
+use lib.Dec.{ltb}
 use Rattle.document.specs.Doc.{through}
-use Rattle.document.specs.Rows.{word, docAt, Valid}
+use Rattle.document.specs.Rows.{word, docAt, Valid, fault, countsOk}
 use Rattle.layout.specs.declared.cursor.Cursor.{Cursor}
+use Rattle.layout.specs.declared.Counts.{Counts}
+use Rattle.layout.specs.declared.Laid.{Laid}
+use Rattle.layout.specs.declared.Laid.the-variants as laids
+use Rattle.layout.specs.declared.Admission.{Admission}
+use Rattle.layout.specs.declared.Admission.the-variants.{Admitted, Document, Width}
 use Rattle.layout.specs.Layout.{Piece, after, run, layout}
-use Rattle.layout.specs.Listing.{pieceBytes, bytesOf}
+use Rattle.layout.specs.Listing.{pieceBytes, bytesOf, lines}
 use Rattle.layout.specs.Paint.{paint}
 
 -- the row that holds the cursor starts at end - width, which is not after the cursor
@@ -21,12 +27,14 @@ textOf rows texts r = take (word rows r 2) (drop (word rows r 1) texts)
 
 -- the text of row r lies in the text area, and the numbers stay below the machine's limit when it is emitted
 pub record TextRoom (rows texts : List ℕ) (r width : ℕ) (c : Cursor) : Type 0 where
+  pub row : r * 7 + 7 ≤ length rows
   pub steady : Steady width c
   pub inside : word rows r 1 + word rows r 2 ≤ length texts
   pub room : c .position + word rows r 2 + width < 18446744073709551616
 
 -- the same of a break, as a blank and as a newline
 pub record BreakRoom (rows : List ℕ) (r width nest : ℕ) (c : Cursor) : Type 0 where
+  pub row : r * 7 + 7 ≤ length rows
   pub steady : Steady width c
   pub blank : c .position + word rows r 1 + width < 18446744073709551616
   pub newline : c .position + 1 + nest + width < 18446744073709551616
@@ -74,3 +82,21 @@ pub record LaidOut
   pub steady : Steady width v
   pub position-bound : v .position ≤ c .position + word rows r 3 * 8589934592
   pub test-bound : v .tests ≤ c .tests + word rows r 3
+
+-- 9, then 6, as in `outcome`: what comes before a row is laid out
+unfoldable pub admission : List ℕ → ℕ → List ℕ → ℕ → ℕ → Admission
+admission rows count texts total width =
+    cond (countsOk (length rows) count (length texts) total)
+    (cond (ltb (fault rows total count) count) (Document (fault rows total count))
+    (cond (ltb 65535 width) Width Admitted))
+    (Document 0)
+
+-- the counts from the last cursor, with the lines of what was listed
+abbrev pub counted : Cursor → ℕ → ℕ → List ℕ → Counts
+counted v count total s =
+    record { rows = count; text = total; length = v .position; lines = lines s; longest = v .longest; tests = v .tests }
+
+-- the answer from the last cursor and the listing area it has left
+abbrev pub reported : Cursor → ℕ → ℕ → List ℕ → Laid
+reported v count total l =
+    cond (ltb (length l) (v .position)) laids.Listing (laids.Done (counted v count total (take (v .position) l)))

@@ -18,6 +18,18 @@ pub struct Cursor {
     pub tests: usize,
 }
 
+// Before the first piece.
+pub fn start(width: usize) -> Cursor
+    ensures { λ v. ⌜ v ≡ Rattle.layout.specs.Layout.start width ⌝ }
+{
+    Cursor {
+        position: 0,
+        end: width,
+        longest: 0,
+        tests: 0,
+    }
+}
+
 fn larger(a: usize, b: usize) -> usize
     ensures { λ v. ⌜ v ≡ max a b ⌝ }
 {

@@ -2,9 +2,10 @@
 use crate::cursor::Cursor;
 use document::measures::left_of;
 use document::measures::through;
-use document::measures::word_at;
+use document::measures::word_in;
 ghost use mathlib.Core.Path.{_≡_};
-ghost use Prim.Native.Nat.{_+_, _<_};
+ghost use Prim.Native.Nat.{_+_, _*_, _<_, _≤_};
+ghost use lib.ListN.{length};
 ghost use Rattle.document.specs.Rows.{word};
 ghost use Rattle.layout.specs.Layout.{textᵖ, placed};
 ghost use Rattle.layout.specs.Contract.{TextRoom, BreakRoom, Room, nextOfLeft, textOf};
@@ -12,15 +13,15 @@ ghost use Rattle.basics.specs.Lent.{was};
 ghost use Rattle.layout.specs.Frames.{Emits, LaysOut};
 
 // The distance from the end of the left child of the join at row r to the next break, where it is `next` at the join's end.
-fn next_of_left(rows: &[u32], r: usize, next: usize) -> usize
-    requires { ⌜ (0 < r) × (next < 4611686018427387904) ⌝ }
+pub fn next_of_left(rows: &[u32], r: usize, next: usize) -> usize
+    requires { ⌜ ((0 < r) × (r * 7 ≤ length (now rows))) × (next < 4611686018427387904) ⌝ }
     ensures { λ v. ⌜ (v ≡ nextOfLeft (was rows) r next) × (v < next + 4294967296) ⌝ }
 {
     let right = r - 1;
-    through(word_at(rows, right, 6), word_at(rows, right, 5), next)
+    through(word_in(rows, right, 6), word_in(rows, right, 5), next)
 }
 
-fn lay_text(
+pub fn lay_text(
     r: usize,
     rows: &[u32],
     texts: &[u8],
@@ -31,13 +32,13 @@ fn lay_text(
     requires { ⌜ TextRoom (now rows) (now texts) r width c ⌝ }
     ensures { λ v. ⌜ Emits listing width (textᵖ (textOf (was rows) (was texts) r)) c v ⌝ }
 {
-    let from = word_at(rows, r, 1);
-    let size = word_at(rows, r, 2);
+    let from = word_in(rows, r, 1);
+    let size = word_in(rows, r, 2);
     let to = from + size;
     c.text(width, listing, &texts[from..to])
 }
 
-fn lay_break(
+pub fn lay_break(
     r: usize,
     rows: &[u32],
     width: usize,
@@ -50,7 +51,7 @@ fn lay_break(
     ensures { λ v. ⌜ Emits listing width (placed flat (word (was rows) r 1) nest) c v ⌝ }
 {
     if flat {
-        let blank = word_at(rows, r, 1);
+        let blank = word_in(rows, r, 1);
         return c.blank(width, listing, blank);
     }
     c.newline(width, listing, nest)
@@ -77,7 +78,7 @@ pub fn lay_out(
     let mut flat = flat0;
     let mut c = c0;
     loop {
-        let kind = word_at(rows, r, 0);
+        let kind = word_in(rows, r, 0);
         if kind == 0 {
             return lay_text(r, rows, texts, width, c, listing);
         }
@@ -98,12 +99,12 @@ pub fn lay_out(
             );
             r = r - 1;
         } else if kind == 3 {
-            nest = nest + word_at(rows, r, 1);
+            nest = nest + word_in(rows, r, 1);
             r = r - 1;
         } else if flat {
             r = r - 1;
         } else {
-            flat = c.position + word_at(rows, r, 4) + next <= c.end;
+            flat = c.position + word_in(rows, r, 4) + next <= c.end;
             c = c.tested();
             r = r - 1;
         }

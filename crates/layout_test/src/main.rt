@@ -1,58 +1,31 @@
-// Lays out the documents of its standard input, each made row by row and then perhaps with one word changed, in areas filled with
-// question marks. Writes of each case its title, what was made, number, place and counts of the answer, and what the area begins with. The
-// file stdout has what 01 says.
+// Lays out the documents of its standard input by both layouts, each made row by row and then perhaps with one word changed, in areas
+// filled with question marks. Writes of each case its title, what was made, number, place and counts of the first layout's answer, and what
+// the listing area begins with; then whether the second layout answers and lists the same, and what the pending area holds. The file stdout
+// has what 01 and 02 say.
+mod answers;
+mod areas;
 mod build;
 
+use answers::numbers;
+use answers::numbers_pending;
+use answers::same;
+use answers::show;
+use areas::alike;
+use areas::mark;
+use areas::mark_words;
+use areas::show_area;
+use areas::show_pending;
+use basics::bools::both;
 use document::sink::Sink;
 use layout::Laid;
-use layout::area::fill_at;
 use layout::layout;
+use layout_pending::LaidPending;
+use layout_pending::layout_pending;
 use libc::STDIN_FILENO;
 use libc::STDOUT_FILENO;
 use records::bytes;
 use records::field;
-use records::front;
 use records::word;
-
-// Rows and text bytes of a document that was made, and with which refusal; number, place and counts of what is answered to it.
-fn numbers(s: Sink, a: Laid) -> [usize; 12] {
-    let stop = s.stop as usize;
-    match a {
-        Laid::Done { counts } => [
-            s.rows,
-            s.text,
-            stop,
-            s.place,
-            0,
-            0,
-            counts.rows,
-            counts.text,
-            counts.length,
-            counts.lines,
-            counts.longest,
-            counts.tests,
-        ],
-        Laid::Document { row } => [s.rows, s.text, stop, s.place, 9, row, 0, 0, 0, 0, 0, 0],
-        Laid::Width => [s.rows, s.text, stop, s.place, 6, 0, 0, 0, 0, 0, 0, 0],
-        Laid::Listing => [s.rows, s.text, stop, s.place, 22, 0, 0, 0, 0, 0, 0, 0],
-    }
-}
-
-fn show(a: [usize; 12]) {
-    let mut i: usize = 0;
-    while i < 12 {
-        io::write_all(STDOUT_FILENO, b" ");
-        io::print_decimal(STDOUT_FILENO, a[i] as u64);
-        i += 1;
-    }
-}
-
-// The first 64 bytes of an area.
-fn show_area(area: &[u8]) {
-    io::write_all(STDOUT_FILENO, b"\n");
-    io::write_all(STDOUT_FILENO, front(area, 64));
-    io::write_all(STDOUT_FILENO, b"|\n");
-}
 
 fn change(rows: &mut [u32], i: usize, v: u32) {
     if i < rows.len() {
@@ -61,14 +34,20 @@ fn change(rows: &mut [u32], i: usize, v: u32) {
 }
 
 fn made(data: &[u8], at: usize, rows: &mut [u32], text: &mut [u8]) -> Sink {
-    let s = build::build(data, bytes(data, at, 25, field(data, at, 1)), rows, text);
+    let codes = bytes(data, field(data, at, 0), 0, field(data, at, 1));
+    let s = build::build(data, codes, rows, text);
     change(rows, field(data, at, 6), word(data, at, 7));
     s
 }
 
+// Rows and text bytes of a document that was made, and with which refusal.
+fn show_made(s: Sink) {
+    let a = [s.rows, s.text, s.stop as usize, s.place];
+    show(&a);
+}
+
 fn laid(data: &[u8], at: usize, rows: &[u32], text: &[u8], area: &mut [u8]) -> Laid {
-    let n = area.len();
-    fill_at(area, 0, n, b'?');
+    mark(area);
     layout(
         rows,
         field(data, at, 3),
@@ -79,35 +58,126 @@ fn laid(data: &[u8], at: usize, rows: &[u32], text: &[u8], area: &mut [u8]) -> L
     )
 }
 
-// One case; differential/layout_cases.py has the form, and makes the files stdin and stdout.
-fn case(data: &[u8], at: usize, rows: &mut [u32], text: &mut [u8], area: &mut [u8]) {
-    io::write_all(STDOUT_FILENO, bytes(data, at, 9, field(data, at, 2)));
-    let s = made(data, at, rows, text);
-    let a = laid(data, at, rows, text, area);
-    show(numbers(s, a));
-    show_area(area);
-}
-
-fn case_in(
+fn laid_pending(
     data: &[u8],
     at: usize,
-    n: usize,
-    rows: &mut [u32],
-    text: &mut [u8],
-    listing: &mut [u8],
-) {
-    if n <= listing.len() {
-        case(data, at, rows, text, &mut listing[..n]);
+    rows: &[u32],
+    text: &[u8],
+    pending: &mut [u32],
+    area: &mut [u8],
+) -> LaidPending {
+    mark(area);
+    mark_words(pending);
+    layout_pending(
+        rows,
+        field(data, at, 3),
+        text,
+        field(data, at, 4),
+        field(data, at, 5),
+        pending,
+        area,
+    )
+}
+
+// A word stands for the second layout's answer and listing where they are the first's, to the last byte of the area.
+fn show_second(a: [usize; 8], b: [usize; 8], first: &[u8], second: &[u8]) {
+    if both(same(a, b), alike(first, second)) {
+        io::write_all(STDOUT_FILENO, b" same");
+    } else {
+        show(&b);
+        show_area(second);
     }
 }
 
-fn cases(data: &[u8], rows: &mut [u32], text: &mut [u8], listing: &mut [u8]) {
+// Makes a case's document and lays it out by the first layout, which gives the numbers.
+fn by_first(
+    data: &[u8],
+    at: usize,
+    rows: &mut [u32],
+    text: &mut [u8],
+    first: &mut [u8],
+) -> [usize; 8] {
+    show_made(made(data, at, rows, text));
+    let a = numbers(laid(data, at, rows, text, first));
+    show(&a);
+    show_area(first);
+    a
+}
+
+// The same document by the second layout, held to the numbers and the area of the first.
+fn by_second(
+    data: &[u8],
+    at: usize,
+    rows: &[u32],
+    text: &[u8],
+    a: [usize; 8],
+    first: &[u8],
+    pending: &mut [u32],
+    second: &mut [u8],
+) {
+    let b = numbers_pending(laid_pending(data, at, rows, text, pending, second));
+    show_second(a, b, first, second);
+    show_pending(pending);
+}
+
+// One case; differential/layout_cases.py has the form, and makes the files stdin and stdout.
+fn case(
+    data: &[u8],
+    at: usize,
+    rows: &mut [u32],
+    text: &mut [u8],
+    pending: &mut [u32],
+    first: &mut [u8],
+    second: &mut [u8],
+) {
+    io::write_all(STDOUT_FILENO, bytes(data, at, 10, field(data, at, 2)));
+    let a = by_first(data, at, rows, text, first);
+    by_second(data, at, rows, text, a, first, pending, second);
+}
+
+// A case in areas of the lengths that it asks for; nothing is written where there is not so much.
+fn case_in(
+    data: &[u8],
+    at: usize,
+    rows: &mut [u32],
+    text: &mut [u8],
+    pending: &mut [u32],
+    first: &mut [u8],
+    second: &mut [u8],
+) {
+    let n = field(data, at, 8);
+    let p = field(data, at, 9);
+    if p <= pending.len() {
+        if n <= first.len() {
+            if n <= second.len() {
+                case(
+                    data,
+                    at,
+                    rows,
+                    text,
+                    &mut pending[..p],
+                    &mut first[..n],
+                    &mut second[..n],
+                );
+            }
+        }
+    }
+}
+
+fn cases(
+    data: &[u8],
+    rows: &mut [u32],
+    text: &mut [u8],
+    pending: &mut [u32],
+    first: &mut [u8],
+    second: &mut [u8],
+) {
     let n = field(data, 0, 0);
-    let mut at: usize = 1024;
+    let mut at: usize = field(data, 0, 1);
     let mut i: usize = 0;
     while i < n {
-        case_in(data, at, field(data, at, 8), rows, text, listing);
-        at = std::num::wrapping_add_usize(at, field(data, at, 0));
+        case_in(data, at, rows, text, pending, first, second);
+        at = std::num::wrapping_add_usize(at, 26);
         i += 1;
     }
 }
@@ -116,7 +186,16 @@ fn main() {
     let mut data = [0u8; 122880];
     let mut rows = [0u32; 114688];
     let mut text = [0u8; 65536];
-    let mut listing = [0u8; 8256];
+    let mut pending = [0u32; 65536];
+    let mut first = [0u8; 32768];
+    let mut second = [0u8; 32768];
     io::read_full(STDIN_FILENO, &mut data);
-    cases(&data, &mut rows, &mut text, &mut listing);
+    cases(
+        &data,
+        &mut rows,
+        &mut text,
+        &mut pending,
+        &mut first,
+        &mut second,
+    );
 }

@@ -1,4 +1,4 @@
-// The calls: check, print expression, print declaration, layout of a given document, handing out.
+// The calls: check, print expression, print declaration, the two layouts of a given document, handing out.
 use basics::bools::both;
 use checked::print_checked_declar;
 use checked::print_checked_expr;
@@ -7,6 +7,7 @@ use handing::string_span;
 use handing::text_span;
 use layout::Counts;
 use layout::Laid;
+use layout_pending::LaidPending;
 use pool::tables::tables_of;
 use pool_check::Verdict;
 ghost use mathlib.Core.Bool.{cond};
@@ -14,6 +15,8 @@ ghost use mathlib.Core.Path.{_≡_};
 ghost use Rattle.layout.specs.Call.{outcome};
 ghost use Rattle.basics.specs.Lent.{was};
 ghost use Rattle.layout.specs.Frames.{Lists};
+ghost use Rattle.layout_pending.specs.Call.{outcomePending};
+ghost use Rattle.layout_pending.specs.Frames.{ListsPending};
 ghost use Rattle.lister.specs.declared.Answer.{Answer};
 ghost use Rattle.lister.specs.Source.{judged, isAccepted};
 ghost use Rattle.lister.specs.Prints.{sizesOk, printExpr, printDeclar};
@@ -186,6 +189,21 @@ pub fn layout(
     ensures { λ v. ⌜ Lists listing v (outcome (was rows) count (was text) total width) ⌝ }
 {
     layout::layout(rows, count, text, total, width, listing)
+}
+
+// Lays it out without deep calls: the rows that are still to be laid out stand in `pending`, three words for each row of the document.
+pub fn layout_pending(
+    rows: &[u32],
+    count: usize,
+    text: &[u8],
+    total: usize,
+    width: usize,
+    pending: &mut [u32],
+    listing: &mut [u8],
+) -> LaidPending
+    ensures { λ v. ⌜ ListsPending pending listing v (outcomePending (was rows) count (was text) total width) ⌝ }
+{
+    layout_pending::layout_pending(rows, count, text, total, width, pending, listing)
 }
 
 // Where the text of a document's row lies in `text`, or a pool's string in `bytes`: nothing, at offset 0, unless document or pool is

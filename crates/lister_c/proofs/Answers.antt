@@ -6,11 +6,13 @@ use Prim.Native.Nat.{ℕ}
 use Rattle.pool_check.specs.declared.Verdict.{Verdict}
 use Rattle.layout.specs.declared.Laid.{Laid}
 use Rattle.layout.specs.Call.{Outcome}
+use Rattle.layout_pending.specs.declared.LaidPending.{LaidPending}
+use Rattle.layout_pending.specs.Call as pendings
 use Rattle.lister_c.specs.declared.Report.{Report}
 use Rattle.lister.specs.declared.Answer.{Answer}
 use Rattle.lister.specs.declared.Part.{Part}
 use Rattle.lister.specs.Prints as prints
-use Rattle.lister_c.specs.Reports.{Checked, LaidOut, Printed, ofVerdict, ofLaid, ofAnswer, put, putWords, checked, laid, printed, handed}
+use Rattle.lister_c.specs.Reports.{Checked, LaidOut, LaidOutPending, Printed, ofVerdict, ofLaid, ofLaidPending, ofAnswer, put, putWords, checked, laid, laidPending, printed, handed}
 
 abbrev pub answer : ℕ → List ℕ → Checked
 answer number out = record { number = number; out = out }
@@ -42,6 +44,24 @@ unfolding laid ofLaid
 layout-answer {v} {listing} {o} {r} out outcome report filled =
     ap (answers listing (r .number)) filled
     ∙ (ap (λ (x : Report). answers listing (x .number) (put out x)) report ∙ ap (λ (x : Outcome). laid x out) outcome)
+
+abbrev pub pendingOutcome : LaidPending → List ℕ → List ℕ → pendings.Outcome
+pendingOutcome v listing pending = record { answer = v; listing = listing; pending = pending }
+
+abbrev pub pendingAnswers : List ℕ → List ℕ → ℕ → List ℕ → LaidOutPending
+pendingAnswers listing pending number out = record { number = number; listing = listing; pending = pending; out = out }
+
+pub layout-pending-answer :
+    {v : LaidPending} {listing pending : List ℕ} {o : pendings.Outcome} {r : Report} {last : List ℕ} (out : List ℕ)
+    → pendingOutcome v listing pending ≡ o
+    → r ≡ ofLaidPending v
+    → last ≡ put out r
+    → pendingAnswers listing pending (r .number) last ≡ laidPending o out
+unfolding laidPending ofLaidPending
+layout-pending-answer {v} {listing} {pending} {o} {r} out outcome report filled =
+    ap (pendingAnswers listing pending (r .number)) filled
+    ∙ (ap (λ (x : Report). pendingAnswers listing pending (x .number) (put out x)) report
+    ∙ ap (λ (x : pendings.Outcome). laidPending x out) outcome)
 
 abbrev pub printOutcome : Answer → prints.Areas → prints.Outcome
 printOutcome v areas = record { answer = v; areas = areas }

@@ -6,16 +6,22 @@ use Prim.Native.Nat.{ℕ}
 use Rattle.pool_check.specs.declared.Verdict.{Verdict}
 use Rattle.basics.specs.Lent.{Area, was, left}
 use Rattle.layout.specs.Call as call
+use Rattle.layout_pending.specs.Call as pendings
 use Rattle.lister.specs.declared.Part.{Part}
 use Rattle.lister.specs.Prints as prints
 use Rattle.lister.specs.Frames.{lentAreas, leftAreas}
-use Rattle.lister_c.specs.Reports.{checked, laid, printed, handed}
+use Rattle.lister_c.specs.Reports.{checked, laid, laidPending, printed, handed}
 
 abbrev pub Checks : Area → ℕ → Verdict → Type 0
 Checks out v verdict = record { number = v; out = left out } ≡ checked verdict (was out)
 
 abbrev pub LaysOut : Area → Area → ℕ → (List ℕ → call.Outcome) → Type 0
 LaysOut listing out v defined = record { number = v; listing = left listing; out = left out } ≡ laid (defined (was listing)) (was out)
+
+abbrev pub LaysOutPending : Area → Area → Area → ℕ → (List ℕ → List ℕ → pendings.Outcome) → Type 0
+LaysOutPending pending listing out v defined =
+    record { number = v; listing = left listing; pending = left pending; out = left out }
+    ≡ laidPending (defined (was pending) (was listing)) (was out)
 
 abbrev pub Prints : Area → Area → Area → Area → ℕ → (prints.Areas → prints.Outcome) → Type 0
 Prints rows text listing out v defined =

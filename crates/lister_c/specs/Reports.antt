@@ -11,6 +11,9 @@ use Rattle.layout.specs.declared.Laid.{Laid}
 use Rattle.layout.specs.declared.Laid.the-variants.{Done, Document, Width, Listing}
 use Rattle.layout.specs.Call as call
 use Rattle.layout.specs.Call.{Outcome}
+use Rattle.layout_pending.specs.declared.LaidPending.{LaidPending}
+use Rattle.layout_pending.specs.declared.LaidPending.the-variants as pendings
+use Rattle.layout_pending.specs.Call as pending
 use Rattle.lister.specs.declared.Answer.{Answer}
 use Rattle.lister.specs.declared.Answer.the-variants as answers
 use Rattle.lister.specs.Answers as numbers
@@ -47,6 +50,14 @@ laidCounts Listing = none
 -- what layout reports
 unfoldable pub ofLaid : Laid → Report
 ofLaid l = record { number = call.number l; place = call.place l; counts = laidCounts l }
+
+unfoldable pub laidPendingCounts : LaidPending → Counts
+laidPendingCounts (pendings.Laid laid) = laidCounts laid
+laidPendingCounts pendings.PendingArea = none
+
+-- what the layout with a pending area reports
+unfoldable pub ofLaidPending : LaidPending → Report
+ofLaidPending l = record { number = pending.number l; place = pending.place l; counts = laidPendingCounts l }
 
 unfoldable pub printCounts : Answer → Counts
 printCounts (answers.Done counts) = counts
@@ -94,6 +105,22 @@ pub record LaidOut : Type 0 where
 unfoldable pub laid : Outcome → List ℕ → LaidOut
 laid o out =
     record { number = call.number (o .answer); listing = o .listing; out = put out (ofLaid (o .answer)) }
+
+-- what `tilusorgu_layout_pending` returns, and the listing area, the pending area and `out` afterwards
+pub record LaidOutPending : Type 0 where
+  pub number : ℕ
+  pub listing : List ℕ
+  pub pending : List ℕ
+  pub out : List ℕ
+
+unfoldable pub laidPending : pending.Outcome → List ℕ → LaidOutPending
+laidPending o out =
+    record {
+      number = pending.number (o .answer);
+      listing = o .listing;
+      pending = o .pending;
+      out = put out (ofLaidPending (o .answer));
+    }
 
 -- what `tilusorgu_print_expr` and `tilusorgu_print_declar` return, and the lent areas and `out` afterwards
 pub record Printed : Type 0 where

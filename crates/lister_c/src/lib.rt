@@ -2,6 +2,7 @@
 // number, 0 for none, and fills the first eight words of `out`; an `out` that is shorter than eight is left as it is.
 use layout::Counts;
 use layout::Laid;
+use layout_pending::LaidPending;
 use lister::Answer;
 use lister::Handed;
 use lister::Part;
@@ -9,12 +10,13 @@ use pool_check::Verdict;
 ghost use mathlib.Core.List.{[], _∷_};
 ghost use mathlib.Core.Path.{_≡_};
 ghost use Rattle.layout.specs.Call.{outcome};
+ghost use Rattle.layout_pending.specs.Call.{outcomePending};
 ghost use Rattle.basics.specs.Lent.{was, left};
 ghost use Rattle.lister.specs.Source.{judged};
 ghost use Rattle.lister.specs.Prints.{printExpr, printDeclar};
 ghost use Rattle.lister.specs.Frames.{given};
-ghost use Rattle.lister_c.specs.Reports.{put, putWords, ofVerdict, ofLaid, ofAnswer, kindSpan};
-ghost use Rattle.lister_c.specs.Frames.{Checks, LaysOut, Prints, HandsOut};
+ghost use Rattle.lister_c.specs.Reports.{put, putWords, ofVerdict, ofLaid, ofLaidPending, ofAnswer, kindSpan};
+ghost use Rattle.lister_c.specs.Frames.{Checks, LaysOut, LaysOutPending, Prints, HandsOut};
 
 // What a call reports, in the order of `out`; what does not apply is 0.
 pub struct Report {
@@ -73,6 +75,15 @@ fn of_laid(v: Laid) -> Report
         Laid::Document { row } => refusal(9, row),
         Laid::Width => refusal(6, 0),
         Laid::Listing => refusal(22, 0),
+    }
+}
+
+fn of_laid_pending(v: LaidPending) -> Report
+    ensures { λ r. ⌜ r ≡ ofLaidPending v ⌝ }
+{
+    match v {
+        LaidPending::Laid { laid } => of_laid(laid),
+        LaidPending::PendingArea => refusal(30, 0),
     }
 }
 
@@ -166,6 +177,33 @@ pub extern "C" fn tilusorgu_layout(
         text,
         total as usize,
         width as usize,
+        listing,
+    ));
+    fill(out, report);
+    report.number
+}
+
+// Lays it out with its pending rows in a lent area, and without deep calls.
+#[no_mangle]
+pub extern "C" fn tilusorgu_layout_pending(
+    rows: &[u32],
+    row_count: u64,
+    text: &[u8],
+    text_count: u64,
+    width: u32,
+    pending: &mut [u32],
+    listing: &mut [u8],
+    out: &mut [u64],
+) -> u32
+    ensures { λ v. ⌜ LaysOutPending pending listing out v (outcomePending (was rows) «row_count» (was text) «text_count» width) ⌝ }
+{
+    let report = of_laid_pending(layout_pending::layout_pending(
+        rows,
+        row_count as usize,
+        text,
+        text_count as usize,
+        width as usize,
+        pending,
         listing,
     ));
     fill(out, report);

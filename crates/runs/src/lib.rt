@@ -1,7 +1,13 @@
-// The third property is one of the calls: what holds of one call of each print, and of two calls, whatever they are given and lent.
+// The third property is one of the calls: what holds of one call of each print, and of two calls, whatever they are given and lent. And the
+// two layouts agree.
+use layout::Laid;
+use layout_pending::LaidPending;
 use lister::Answer;
 use lister::print_declar;
 use lister::print_expr;
+ghost use mathlib.Core.Path.{_≡_};
+ghost use Rattle.basics.specs.Lent.{was, left};
+ghost use Rattle.layout_pending.specs.Agreement.{Agree};
 ghost use Rattle.third_property.specs.ThirdProperty.{Print, expression, declaration, TwoRuns};
 ghost use Rattle.runs.specs.Calls.{runWith, OneCall};
 
@@ -113,4 +119,29 @@ pub fn declar_twice(
         listing2,
     );
     Answers { first, second }
+}
+
+// What the two layouts answer.
+pub struct Layouts {
+    pub first: Laid,
+    pub second: LaidPending,
+}
+
+// Both layouts of a given document at one width, in listing areas that held the same.
+pub fn layout_both(
+    rows: &[u32],
+    count: usize,
+    text: &[u8],
+    total: usize,
+    width: usize,
+    listing: &mut [u8],
+    pending: &mut [u32],
+    listing2: &mut [u8],
+) -> Layouts
+    ensures { λ v. ⌜ (was listing ≡ was listing2
+        → Agree count (was pending) (was listing) (v .first) (left listing) (v .second) (left listing2)) ⌝ }
+{
+    let first = lister::layout(rows, count, text, total, width, listing);
+    let second = lister::layout_pending(rows, count, text, total, width, pending, listing2);
+    Layouts { first, second }
 }

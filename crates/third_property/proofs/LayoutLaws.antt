@@ -184,5 +184,5 @@ pub stored-is-listed : (d : Doc) → Fine d → (moreRows moreTexts : List ℕ) 
     → outcome (stored 0 d ++ moreRows) (rowCount d) (textBytes d ++ moreTexts) (length (textBytes d)) width l ≡ listed (rowCount d) (length (textBytes d)) (pieces width d) l
 stored-is-listed d fine moreRows moreTexts width l few small narrow =
     let a = stored-accepted d moreRows moreTexts fine few small in
-    sym (answer-listed (stored 0 d ++ moreRows) (rowCount d) (textBytes d ++ moreTexts) (length (textBytes d)) width l (a .counts) (a .faultless) narrow)
+    sym (answer-listed (stored 0 d ++ moreRows) (rowCount d) (textBytes d ++ moreTexts) (length (textBytes d)) width (a .counts) (a .faultless) l narrow)
     ∙ ap (λ (z : Doc). listed (rowCount d) (length (textBytes d)) (pieces width z) l) (stored-reads-back d moreRows moreTexts)

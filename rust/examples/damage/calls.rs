@@ -54,6 +54,27 @@ pub fn layout(given: Given<'_>, width: u32, listing: &mut Guarded<u8>, out: &mut
     }
 }
 
+pub fn layout_pending(given: Given<'_>, width: u32, pending: &mut Guarded<u32>, listing: &mut Guarded<u8>, out: &mut Guarded<u64>) -> u32 {
+    let (pending, listing, out) = (pending.area(), listing.area(), out.area());
+    unsafe {
+        raw::tilusorgu_layout_pending(
+            given.rows.as_ptr(),
+            given.rows.len(),
+            given.row_count,
+            given.text.as_ptr(),
+            given.text.len(),
+            given.text_count,
+            width,
+            pending.as_mut_ptr(),
+            pending.len(),
+            listing.as_mut_ptr(),
+            listing.len(),
+            out.as_mut_ptr(),
+            out.len(),
+        )
+    }
+}
+
 /// Of a document's text (kind 0) or a pool's string (kind 1).
 pub fn hand_out(pool: &Pool, given: Given<'_>, (kind, row): (u32, u32), out: &mut Guarded<u64>) -> u32 {
     let out = out.area();

@@ -1,4 +1,4 @@
-//! What document 01 says of an answer, whatever the input was: numbers, places, counts, and what the areas hold.
+//! What documents 01 and 02 say of an answer, whatever the input was: numbers, places, counts, and what the areas hold.
 use crate::guarded::Guarded;
 use tilusorgu::{Pool, Root, Table};
 
@@ -11,6 +11,10 @@ pub fn bytes(length: usize) -> Guarded<u8> {
     Guarded::new(length, GUARD, FILL)
 }
 
+pub fn words(length: usize) -> Guarded<u32> {
+    Guarded::new(length, 0x5c5c_5c5c, 0xa5a5_a5a5)
+}
+
 pub struct Areas {
     pub rows: Guarded<u32>,
     pub text: Guarded<u8>,
@@ -19,7 +23,7 @@ pub struct Areas {
 
 impl Areas {
     pub fn new([rows, text, listing]: [usize; 3]) -> Areas {
-        Areas { rows: Guarded::new(rows, 0x5c5c_5c5c, 0xa5a5_a5a5), text: bytes(text), listing: bytes(listing) }
+        Areas { rows: words(rows), text: bytes(text), listing: bytes(listing) }
     }
 }
 
@@ -98,6 +102,30 @@ pub fn full_areas(answer: (u32, u64), areas: &Areas) -> Result<(), String> {
         21 => need(answer.1 <= rows as u64 / 7 && text < 65_536, "21, though the text area is of full length"),
         8 => need(answer.1 <= 16_384, "more rows written than a document has"),
         _ => Ok(()),
+    }
+}
+
+/// The words that a pending area has to have. Past 01's limit the document is refused 9, and none are needed.
+pub fn pending_words(row_count: u64) -> usize {
+    3 * row_count.min(16_384) as usize
+}
+
+/// The number of the layout with a pending area of so many words, where the other layout ended with `first`.
+pub fn pending_number(first: u32, row_count: u64, words: usize) -> u32 {
+    if first != 9 && first != 6 && words < pending_words(row_count) {
+        30
+    } else {
+        first
+    }
+}
+
+/// Both areas after a layout with a pending area that ended so.
+pub fn pending_areas(number: u32, pending: &Guarded<u32>, listing: &Guarded<u8>) -> Result<(), String> {
+    need(pending.intact() && listing.intact(), "layout, pending: a guard was written")?;
+    match number {
+        0 | 22 => need(pending.is_from(0, 0), "layout, pending: a success or 22 left something in the pending area"),
+        6 | 9 | 30 => need(pending.untouched_from(0) && listing.untouched_from(0), "layout, pending: 6, 9 or 30 wrote an area"),
+        _ => Err(format!("layout, pending: never refused {number}")),
     }
 }
 

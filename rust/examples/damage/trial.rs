@@ -18,7 +18,7 @@ impl Tally {
     }
 
     pub fn show(&self) {
-        for call in ["check", "print expression", "print declaration", "layout", "hand out a string", "hand out a text"] {
+        for call in ["check", "print expression", "print declaration", "layout", "layout, pending", "hand out a string", "hand out a text"] {
             let numbers: Vec<String> = self.0.iter().filter(|((c, _), _)| *c == call).map(|((_, n), k)| format!("{n}: {k}")).collect();
             println!("{call}: {}", numbers.join(", "));
         }
@@ -186,6 +186,7 @@ fn layout_call(stock: &Stock, r: &mut Random, tally: &mut Tally) -> Result<(), S
     judge::out(number, &out)?;
     need(listing.intact(), "layout: a guard was written")?;
     hand_out_text(given, number != 9, r, tally)?;
+    layout_pending(given, width, (number, &out, &listing), r, tally)?;
     match number {
         6 | 9 => need(listing.untouched_from(0), "layout: 6 or 9 wrote the listing area"),
         0 if out.seen().len() >= 8 => {
@@ -195,4 +196,38 @@ fn layout_call(stock: &Stock, r: &mut Random, tally: &mut Tally) -> Result<(), S
         0 | 22 => Ok(()),
         _ => Err(format!("layout is never refused {number}")),
     }
+}
+
+/// The same with a pending area, mostly just long enough: the other layout's answer and listing, or 30.
+fn layout_pending(
+    given: Given<'_>,
+    width: u32,
+    (first, first_out, first_listing): (u32, &Guarded<u64>, &Guarded<u8>),
+    r: &mut Random,
+    tally: &mut Tally,
+) -> Result<(), String> {
+    let needed = judge::pending_words(given.row_count);
+    let words = match r.below(6) {
+        0 => needed.saturating_sub(1),
+        1 => mutate::length(r, needed, 3 * 16_384),
+        _ => needed,
+    };
+    let (mut pending, mut listing, mut out) = (judge::words(words), judge::bytes(first_listing.seen().len()), new_out(r));
+    let number = calls::layout_pending(given, width, &mut pending, &mut listing, &mut out);
+    tally.count("layout, pending", number);
+    judge::out(number, &out)?;
+    judge::pending_areas(number, &pending, &listing)?;
+    need(
+        number == judge::pending_number(first, given.row_count, words),
+        "layout, pending: another number than the other layout's, or 30 in the wrong place",
+    )?;
+    if number == 30 {
+        return Ok(());
+    }
+    let (seen, first_seen) = (out.seen(), first_out.seen());
+    need(
+        seen.len() < 8 || first_seen.len() < 8 || seen[..8] == first_seen[..8],
+        "layout, pending: another place or other counts than the other layout's",
+    )?;
+    need(listing.seen() == first_listing.seen(), "layout, pending: another listing than the other layout's")
 }

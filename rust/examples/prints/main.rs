@@ -3,8 +3,8 @@
 //!
 //!     prints [--doc] FILE
 //!
-//! A print that succeeds is made again in areas just long enough and in areas too short, and every answer and area is held to document 01. What does not hold
-//! is said on standard error with the request's number, and the status is 1.
+//! A print that succeeds is made again in areas just long enough and in areas too short, every layout again with a pending area, and every answer and area is held to
+//! documents 01 and 02. What does not hold is said on standard error with the request's number, and the status is 1.
 #[allow(dead_code)] // shared with the program of damaged inputs
 #[path = "../damage/calls.rs"]
 mod calls;
@@ -54,6 +54,32 @@ pub fn print(q: &Request, lengths: [usize; 3]) -> Result<(Guarded<u64>, Areas), 
     Ok((out, areas))
 }
 
+/// One layout with a pending area of so many words, judged likewise.
+fn layout_pending(given: Given<'_>, width: u32, words: usize, length: usize) -> Result<(Guarded<u64>, Guarded<u32>, Guarded<u8>), String> {
+    let (mut pending, mut listing, mut out) = (judge::words(words), judge::bytes(length), new_out());
+    let number = calls::layout_pending(given, width, &mut pending, &mut listing, &mut out);
+    judge::out(number, &out)?;
+    judge::pending_areas(number, &pending, &listing)?;
+    let written = if number == 22 { length } else { out.seen()[4] as usize };
+    judge::need(written <= length && listing.untouched_from(written), "layout, pending: the listing area was written past the listing")?;
+    Ok((out, pending, listing))
+}
+
+/// With a pending area just long enough the answer and the listing are those of the other layout; with one a word shorter it is 30, unless 9 or 6 come first.
+fn same_pending(given: Given<'_>, width: u32, out: &Guarded<u64>, listing: &Guarded<u8>) -> Result<(), String> {
+    let (length, exact) = (listing.seen().len(), judge::pending_words(given.row_count));
+    let (again, _, same) = layout_pending(given, width, exact, length)?;
+    judge::need(again.seen() == out.seen(), "layout, pending: another answer than the other layout's")?;
+    judge::need(same.seen() == listing.seen(), "layout, pending: another listing than the other layout's")?;
+    let short = exact.saturating_sub(1);
+    let number = judge::pending_number(out.seen()[0] as u32, given.row_count, short);
+    judge::need(
+        layout_pending(given, width, short, length)?.0.seen()[0] == u64::from(number),
+        "layout, pending: not refused as 02 says in an area a word short",
+    )
+}
+
+/// Both layouts.
 pub fn layout(given: Given<'_>, width: u32, length: usize) -> Result<(Guarded<u64>, Guarded<u8>), String> {
     let (mut listing, mut out) = (judge::bytes(length), new_out());
     let number = calls::layout(given, width, &mut listing, &mut out);
@@ -61,6 +87,7 @@ pub fn layout(given: Given<'_>, width: u32, length: usize) -> Result<(Guarded<u6
     judge::need(listing.intact(), "layout: a guard was written")?;
     let written = if number == 22 { length } else { out.seen()[4] as usize };
     judge::need(written <= length && listing.untouched_from(written), "layout: the listing area was written past the listing")?;
+    same_pending(given, width, &out, &listing)?;
     Ok((out, listing))
 }
 
@@ -139,6 +166,12 @@ fn exactly(q: &Request, [rows, text, listing]: [u32; 3]) -> Result<Vec<u8>, Stri
             let given = Given { rows: &q.pool.words, row_count: rows.into(), text: &q.pool.bytes, text_count: text.into() };
             let (out, listing) = layout(given, q.width, listing as usize)?;
             (out, Areas { listing, ..Areas::new([0, 0, 0]) })
+        }
+        // the pending area is answered where a print's row area is
+        Call::LayoutPending => {
+            let given = Given { rows: &q.pool.words, row_count: rows.into(), text: &q.pool.bytes, text_count: text.into() };
+            let (out, pending, listing) = layout_pending(given, q.width, q.pending as usize, listing as usize)?;
+            (out, Areas { rows: pending, listing, ..Areas::new([0, 0, 0]) })
         }
         Call::Check => {
             let mut out = new_out();

@@ -12,7 +12,12 @@ pub enum Call {
     HandOutText,
     /// The root is a string row.
     HandOutString,
+    /// A layout with a pending area.
+    LayoutPending,
 }
+
+/// By their modes.
+const CALLS: [Call; 7] = [Call::PrintExpr, Call::PrintDeclar, Call::Layout, Call::Check, Call::HandOutText, Call::HandOutString, Call::LayoutPending];
 
 pub struct Request {
     pub call: Call,
@@ -20,9 +25,11 @@ pub struct Request {
     pub indent: u32,
     pub width: u32,
     pub pool: Pool,
-    /// Those of the areas, of a request for one call alone: rows (in words), text and listing; of a layout the counts of its rows and text bytes, and the listing;
+    /// Those of the areas, of a request for one call alone: rows (in words), text and listing; of both layouts the counts of rows and text bytes, and the listing;
     /// of a text to hand out the two counts.
     pub lengths: Option<[u32; 3]>,
+    /// The length of the pending area in words, of a layout with one; else 0.
+    pub pending: u32,
 }
 
 impl Request {
@@ -62,6 +69,7 @@ pub fn next(data: &mut &[u8]) -> Option<Request> {
     let count = words(data, 1)[0] as usize;
     let pool = Pool { bytes: area, words: words(data, count) };
     let lengths = alone.then(|| words(data, 3).try_into().expect("three lengths"));
-    let call = [Call::PrintExpr, Call::PrintDeclar, Call::Layout, Call::Check, Call::HandOutText, Call::HandOutString][head[0] as usize];
-    Some(Request { call, row: head[1], indent: head[2], width: head[3], pool, lengths })
+    let call = CALLS[head[0] as usize];
+    let pending = if call == Call::LayoutPending { words(data, 1)[0] } else { 0 };
+    Some(Request { call, row: head[1], indent: head[2], width: head[3], pool, lengths, pending })
 }

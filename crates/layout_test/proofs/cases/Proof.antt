@@ -7,25 +7,27 @@ use Rattle.layout_test.proofs.cases.Statement.{statement}
 use Rattle.layout_test.proofs.cases.Tie as tie
 
 abbrev Inv-loop : tie.InvT-loop
-Inv-loop «data» rows₀ text₀ listing₀ n at₀ i₀ rows text listing at i = (length rows ≡ length rows₀) × (length text ≡ length text₀) × (length listing ≡ length listing₀)
+Inv-loop «data» rows₀ text₀ pending₀ first₀ second₀ n at₀ i₀ rows text pending first second at i =
+    (length rows ≡ length rows₀)
+    × (length text ≡ length text₀)
+    × (length pending ≡ length pending₀)
+    × (length first ≡ length first₀)
+    × (length second ≡ length second₀)
 
 abbrev μ-loop : tie.MeasureT-loop
-μ-loop «data» rows₀ text₀ listing₀ n at₀ i₀ rows text listing at i = n - i
+μ-loop «data» rows₀ text₀ pending₀ first₀ second₀ n at₀ i₀ rows text pending first second at i = n - i
 
 field-requires : tie.Need-field-requires Inv-loop μ-loop
 field-requires c κs = search needs
 
-loop-holds : tie.Need-loop-holds Inv-loop μ-loop
-loop-holds c = search needs
-
 field-requires-2 : tie.Need-field-requires-2 Inv-loop μ-loop
 field-requires-2 c κs = search needs
 
+loop-holds : tie.Need-loop-holds Inv-loop μ-loop
+loop-holds c = search needs
+
 case-in-requires : tie.Need-case-in-requires Inv-loop μ-loop
 case-in-requires c κs = search needs
-
-field-requires-3 : tie.Need-field-requires-3 Inv-loop μ-loop
-field-requires-3 c κs = search needs
 
 wrapping-add-usize-requires : tie.Need-wrapping-add-usize-requires Inv-loop μ-loop
 wrapping-add-usize-requires c κs = search needs
@@ -48,6 +50,12 @@ same-length-2 c = search needs
 same-length-3 : tie.Need-same-length-3 Inv-loop μ-loop
 same-length-3 c = search needs
 
+same-length-4 : tie.Need-same-length-4 Inv-loop μ-loop
+same-length-4 c = search needs
+
+same-length-5 : tie.Need-same-length-5 Inv-loop μ-loop
+same-length-5 c = search needs
+
 returns : tie.Need-returns Inv-loop μ-loop
 returns c = search needs
 
@@ -58,10 +66,9 @@ cases-spec =
     Inv-loop
     μ-loop
     field-requires
-    loop-holds
     field-requires-2
+    loop-holds
     case-in-requires
-    field-requires-3
     wrapping-add-usize-requires
     add-i
     loop-less
@@ -69,4 +76,6 @@ cases-spec =
     same-length
     same-length-2
     same-length-3
+    same-length-4
+    same-length-5
     returns)

@@ -4,14 +4,14 @@ use borrow.Author.Needs.{needs}
 use Rattle.document.proofs.check.fields_ok.Statement.{statement}
 use Rattle.document.proofs.check.fields_ok.Tie as tie
 
-word-at-requires : tie.Need-word-at-requires
-word-at-requires c κs = search needs
+word-in-requires : tie.Need-word-in-requires
+word-in-requires c κs = search needs
 
-word-at-requires-2 : tie.Need-word-at-requires-2
-word-at-requires-2 c κs = search needs
+word-in-requires-2 : tie.Need-word-in-requires-2
+word-in-requires-2 c κs = search needs
 
-word-at-requires-3 : tie.Need-word-at-requires-3
-word-at-requires-3 c κs = search needs
+word-in-requires-3 : tie.Need-word-in-requires-3
+word-in-requires-3 c κs = search needs
 
 add-both : tie.Need-add-both
 add-both c = search needs
@@ -21,17 +21,17 @@ both-requires c κs = tt
 
 returns : tie.Need-returns
 returns c =
-    let at-word-at = c .before .before .before .before in
-    let start = at-word-at .before .before in
+    let at-word-in = c .before .before .before .before in
+    let start = at-word-in .before .before in
     let a = start .args in
-    text-fields (a .rows .now) (a .total) (a .before) (a .r) _ _ _ (at-word-at .word-at .ensures .0) (c .before .before .before .word-at2 .ensures .0)
-    (c .before .before .word-at3 .ensures .0) _ true (c .before .if1 .taken) (c .both .ensures)
+    text-fields (a .rows .now) (a .total) (a .before) (a .r) _ _ _ (at-word-in .word-in .ensures .0) (c .before .before .before .word-in2 .ensures .0)
+    (c .before .before .word-in3 .ensures .0) _ true (c .before .if1 .taken) (c .both .ensures)
 
 less-requires : tie.Need-less-requires
 less-requires c κs = tt
 
-word-at-requires-4 : tie.Need-word-at-requires-4
-word-at-requires-4 c κs = search needs
+word-in-requires-4 : tie.Need-word-in-requires-4
+word-in-requires-4 c κs = search needs
 
 both-requires-2 : tie.Need-both-requires-2
 both-requires-2 c κs = tt
@@ -42,27 +42,27 @@ both-requires-3 c κs = tt
 returns-2 : tie.Need-returns-2
 returns-2 c =
     let at-if2 = c .before .before .before .before in
-    let at-word-at3 = at-if2 .before .before in
-    let at-word-at2 = at-word-at3 .before in
-    let at-word-at = at-word-at2 .before in
-    let start = at-word-at .before .before in
+    let at-word-in3 = at-if2 .before .before in
+    let at-word-in2 = at-word-in3 .before in
+    let at-word-in = at-word-in2 .before in
+    let start = at-word-in .before .before in
     let a = start .args in
-    join-fields (a .rows .now) (a .total) (a .before) (a .r) _ _ _ (at-word-at .word-at .ensures .0) (at-word-at2 .word-at2 .ensures .0)
-    (at-word-at3 .word-at3 .ensures .0) _ _ _ _ (at-if2 .if2 .taken) (c .before .before .before .less .ensures)
-    (c .before .before .word-at4 .ensures .0) (c .before .both2 .ensures) (c .both3 .ensures)
+    join-fields (a .rows .now) (a .total) (a .before) (a .r) _ _ _ (at-word-in .word-in .ensures .0) (at-word-in2 .word-in2 .ensures .0)
+    (at-word-in3 .word-in3 .ensures .0) _ _ _ _ (at-if2 .if2 .taken) (c .before .before .before .less .ensures)
+    (c .before .before .word-in4 .ensures .0) (c .before .both2 .ensures) (c .both3 .ensures)
 
 both-requires-4 : tie.Need-both-requires-4
 both-requires-4 c κs = tt
 
 returns-3 : tie.Need-returns-3
 returns-3 c =
-    let at-word-at3 = c .before .before .before .before in
-    let at-word-at2 = at-word-at3 .before in
-    let at-word-at = at-word-at2 .before in
-    let start = at-word-at .before .before in
+    let at-word-in3 = c .before .before .before .before in
+    let at-word-in2 = at-word-in3 .before in
+    let at-word-in = at-word-in2 .before in
+    let start = at-word-in .before .before in
     let a = start .args in
-    break-fields (a .rows .now) (a .total) (a .before) (a .r) _ _ _ (at-word-at .word-at .ensures .0) (at-word-at2 .word-at2 .ensures .0)
-    (at-word-at3 .word-at3 .ensures .0) _ true (c .before .if3 .taken) (c .both4 .ensures)
+    break-fields (a .rows .now) (a .total) (a .before) (a .r) _ _ _ (at-word-in .word-in .ensures .0) (at-word-in2 .word-in2 .ensures .0)
+    (at-word-in3 .word-in3 .ensures .0) _ true (c .before .if3 .taken) (c .both4 .ensures)
 
 both-requires-5 : tie.Need-both-requires-5
 both-requires-5 c κs = tt
@@ -72,13 +72,13 @@ both-requires-6 c κs = tt
 
 returns-4 : tie.Need-returns-4
 returns-4 c =
-    let at-word-at3 = c .before .before .before .before .before .before in
-    let at-word-at2 = at-word-at3 .before in
-    let at-word-at = at-word-at2 .before in
-    let start = at-word-at .before .before in
+    let at-word-in3 = c .before .before .before .before .before .before in
+    let at-word-in2 = at-word-in3 .before in
+    let at-word-in = at-word-in2 .before in
+    let start = at-word-in .before .before in
     let a = start .args in
-    nest-fields (a .rows .now) (a .total) (a .before) (a .r) _ _ _ (at-word-at .word-at .ensures .0) (at-word-at2 .word-at2 .ensures .0)
-    (at-word-at3 .word-at3 .ensures .0) _ _ (c .before .before .if4 .taken) (c .before .both5 .ensures) (c .both6 .ensures)
+    nest-fields (a .rows .now) (a .total) (a .before) (a .r) _ _ _ (at-word-in .word-in .ensures .0) (at-word-in2 .word-in2 .ensures .0)
+    (at-word-in3 .word-in3 .ensures .0) _ _ (c .before .before .if4 .taken) (c .before .both5 .ensures) (c .both6 .ensures)
 
 both-requires-7 : tie.Need-both-requires-7
 both-requires-7 c κs = tt
@@ -94,27 +94,27 @@ returns-5 c =
     let at-if3 = c .before .before .before .before in
     let at-if2 = at-if3 .before in
     let at-if1 = at-if2 .before in
-    let at-word-at3 = at-if1 .before in
-    let at-word-at2 = at-word-at3 .before in
-    let at-word-at = at-word-at2 .before in
-    let start = at-word-at .before .before in
+    let at-word-in3 = at-if1 .before in
+    let at-word-in2 = at-word-in3 .before in
+    let at-word-in = at-word-in2 .before in
+    let start = at-word-in .before .before in
     let a = start .args in
-    group-fields (a .rows .now) (a .total) (a .before) (a .r) _ _ _ (at-word-at .word-at .ensures .0) (at-word-at2 .word-at2 .ensures .0)
-    (at-word-at3 .word-at3 .ensures .0) _ _ _ (at-if1 .if1 .left) (at-if2 .if2 .left) (at-if3 .if3 .left) (c .before .before .before .if4 .left)
+    group-fields (a .rows .now) (a .total) (a .before) (a .r) _ _ _ (at-word-in .word-in .ensures .0) (at-word-in2 .word-in2 .ensures .0)
+    (at-word-in3 .word-in3 .ensures .0) _ _ _ (at-if1 .if1 .left) (at-if2 .if2 .left) (at-if3 .if3 .left) (c .before .before .before .if4 .left)
     (c .before .before .both7 .ensures) (c .before .both8 .ensures) (c .both9 .ensures)
 
 pub fields-ok-spec : {M : Type 1} → statement M
 fields-ok-spec =
     tie.close
     (tie.spec
-    word-at-requires
-    word-at-requires-2
-    word-at-requires-3
+    word-in-requires
+    word-in-requires-2
+    word-in-requires-3
     add-both
     both-requires
     returns
     less-requires
-    word-at-requires-4
+    word-in-requires-4
     both-requires-2
     both-requires-3
     returns-2

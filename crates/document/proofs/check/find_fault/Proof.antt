@@ -19,7 +19,7 @@ loop-holds : tie.Need-loop-holds Inv-loop μ-loop
 loop-holds c = (omega arith, text-none (c .before .args .rows .now), omega arith, scan-start _ _ _)
 
 row-ok-requires : tie.Need-row-ok-requires Inv-loop μ-loop
-row-ok-requires c κs = let p = c .before .before .before .pre in omega arith
+row-ok-requires c κs = let p = c .before .before .before .pre in (omega arith, omega arith)
 
 returns : tie.Need-returns Inv-loop μ-loop
 returns c =
@@ -27,7 +27,7 @@ returns c =
     fault-here _ _ _ _ (c .before .before .loop-test .taken) (ok-is _ _ _ _ _ (at-loop .loop .inv .1) (c .before .row-ok .ensures) ∙ not-true _ (c .if1 .taken)) (at-loop .loop .inv .3)
 
 own-text-requires : tie.Need-own-text-requires Inv-loop μ-loop
-own-text-requires c κs = tt
+own-text-requires c κs = omega arith
 
 add-before : tie.Need-add-before Inv-loop μ-loop
 add-before c = omega (arith, c .own-text .ensures)

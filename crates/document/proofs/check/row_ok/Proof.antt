@@ -8,11 +8,11 @@ use Rattle.document.proofs.check.row_ok.Tie as tie
 fields-ok-requires : tie.Need-fields-ok-requires
 fields-ok-requires c κs = search needs
 
-measures-at-requires : tie.Need-measures-at-requires
-measures-at-requires c κs = tt
+measures-in-requires : tie.Need-measures-in-requires
+measures-in-requires c κs = search needs
 
 derived-at-requires : tie.Need-derived-at-requires
-derived-at-requires c κs = tt
+derived-at-requires c κs = search needs
 
 same-requires : tie.Need-same-requires
 same-requires c κs = tt
@@ -24,14 +24,14 @@ returns : tie.Need-returns
 returns c =
     let at-fields-ok = c .before .before .before .before in
     c .both .ensures ∙ ap₂ _&&_ (at-fields-ok .fields-ok .ensures) (c .before .same .ensures
-    ∙ ap₂ same (c .before .before .before .measures-at .ensures .0) (c .before .before .derived-at .ensures))
+    ∙ ap₂ same (c .before .before .before .measures-in .ensures .0) (c .before .before .derived-at .ensures))
 
 pub row-ok-spec : {M : Type 1} → statement M
 row-ok-spec =
     tie.close
     (tie.spec
     fields-ok-requires
-    measures-at-requires
+    measures-in-requires
     derived-at-requires
     same-requires
     both-requires

@@ -1,18 +1,18 @@
-use borrow.Author.Needs.{needs}
+use native.Mathlib.Omega.{arith}
 use Rattle.document.proofs.measures.left_of.Statement.{statement}
 use Rattle.document.proofs.measures.left_of.Tie as tie
+
+sub-right : tie.Need-sub-right
+sub-right c = omega arith
+
+word-in-requires : tie.Need-word-in-requires
+word-in-requires c κs = (omega arith, omega arith)
 
 less-requires : tie.Need-less-requires
 less-requires c κs = tt
 
-word-at-requires : tie.Need-word-at-requires
-word-at-requires c κs = search needs
-
-less-requires-2 : tie.Need-less-requires-2
-less-requires-2 c κs = tt
-
 returns : tie.Need-returns
-returns c = cc (c .before .word-at .ensures .0)
+returns c = cc (c .before .word-in .ensures .0)
 
 pub left-of-spec : {M : Type 1} → statement M
-left-of-spec = tie.close (tie.spec less-requires word-at-requires less-requires-2 returns)
+left-of-spec = tie.close (tie.spec sub-right word-in-requires less-requires returns)

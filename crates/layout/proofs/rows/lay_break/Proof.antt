@@ -3,8 +3,8 @@ use borrow.Author.Needs.{needs}
 use Rattle.layout.proofs.rows.lay_break.Statement.{statement}
 use Rattle.layout.proofs.rows.lay_break.Tie as tie
 
-word-at-requires : tie.Need-word-at-requires
-word-at-requires c κs = search needs
+word-in-requires : tie.Need-word-in-requires
+word-in-requires c κs = search needs
 
 blank-requires : tie.Need-blank-requires
 blank-requires c κs = search needs
@@ -14,9 +14,9 @@ same-length c = search needs
 
 returns : tie.Need-returns
 returns c =
-    let at-word-at = c .before .before .before .before in
-    let at-if1 = at-word-at .before in
-    place-flat _ _ _ _ _ _ _ _ _ (at-if1 .if1 .taken) (at-word-at .word-at .ensures .0) (c .before .before .blank .ensures)
+    let at-word-in = c .before .before .before .before in
+    let at-if1 = at-word-in .before in
+    place-flat _ _ _ _ _ _ _ _ _ (at-if1 .if1 .taken) (at-word-in .word-in .ensures .0) (c .before .before .blank .ensures)
 
 newline-requires : tie.Need-newline-requires
 newline-requires c κs = search needs
@@ -33,7 +33,7 @@ pub lay-break-spec : {M : Type 1} → statement M
 lay-break-spec =
     tie.close
     (tie.spec
-    word-at-requires
+    word-in-requires
     blank-requires
     same-length
     returns

@@ -3,11 +3,11 @@ use borrow.Author.Needs.{needs}
 use Rattle.layout.proofs.rows.lay_text.Statement.{statement}
 use Rattle.layout.proofs.rows.lay_text.Tie as tie
 
-word-at-requires : tie.Need-word-at-requires
-word-at-requires c κs = search needs
+word-in-requires : tie.Need-word-in-requires
+word-in-requires c κs = search needs
 
-word-at-requires-2 : tie.Need-word-at-requires-2
-word-at-requires-2 c κs = search needs
+word-in-requires-2 : tie.Need-word-in-requires-2
+word-in-requires-2 c κs = search needs
 
 add-to : tie.Need-add-to
 add-to c = search needs
@@ -29,16 +29,16 @@ same-length c = search needs
 
 returns : tie.Need-returns
 returns c =
-    let at-word-at2 = c .before .before .before .before .before in
-    let at-word-at = at-word-at2 .before in
-    text-part _ _ _ _ _ _ _ _ _ _ (at-word-at .word-at .ensures .0) (at-word-at2 .word-at2 .ensures .0) (c .before .before .text .ensures)
+    let at-word-in2 = c .before .before .before .before .before in
+    let at-word-in = at-word-in2 .before in
+    text-part _ _ _ _ _ _ _ _ _ _ (at-word-in .word-in .ensures .0) (at-word-in2 .word-in2 .ensures .0) (c .before .before .text .ensures)
 
 pub lay-text-spec : {M : Type 1} → statement M
 lay-text-spec =
     tie.close
     (tie.spec
-    word-at-requires
-    word-at-requires-2
+    word-in-requires
+    word-in-requires-2
     add-to
     sub-text
     part-text-start

@@ -18,7 +18,9 @@ returns c = first-false _ _ (sym (c .before .counts-ok .ensures) ∙ not-true _ 
 find-fault-requires : tie.Need-find-fault-requires
 find-fault-requires c κs =
     let start = c .before .before .before .before in
-    counts (length (start .args .rows .now)) (start .args .count) (length (start .args .text .now)) (start .args .total) (sym (c .before .counts-ok .ensures) ∙ not-false _ (c .if1 .left)) .few
+    let a = start .args in
+    let k = counts (length (a .rows .now)) (a .count) (length (a .text .now)) (a .total) (sym (c .before .counts-ok .ensures) ∙ not-false _ (c .if1 .left)) in
+    (k .few, k .long)
 
 word-at-requires : tie.Need-word-at-requires
 word-at-requires c κs = search needs

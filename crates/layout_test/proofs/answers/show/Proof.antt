@@ -1,14 +1,15 @@
 use Prim.Native.Nat.{_≤_, _-_}
+use lib.ListN.{length}
 use borrow.Author.Needs.{needs}
 use native.Mathlib.Omega.{arith}
-use Rattle.layout_test.proofs.show.Statement.{statement}
-use Rattle.layout_test.proofs.show.Tie as tie
+use Rattle.layout_test.proofs.answers.show.Statement.{statement}
+use Rattle.layout_test.proofs.answers.show.Tie as tie
 
 abbrev Inv-loop : tie.InvT-loop
-Inv-loop a i₀ t4 i = i ≤ 12
+Inv-loop a i₀ t3 i = 0 ≤ i
 
 abbrev μ-loop : tie.MeasureT-loop
-μ-loop a i₀ t4 i = 12 - i
+μ-loop a i₀ t3 i = length a - i
 
 loop-holds : tie.Need-loop-holds Inv-loop μ-loop
 loop-holds c = search needs
@@ -22,8 +23,8 @@ write-all-requires c κs = search needs
 mul-print-decimal : tie.Need-mul-print-decimal Inv-loop μ-loop
 mul-print-decimal c = omega arith
 
-array-read-print-decimal : tie.Need-array-read-print-decimal Inv-loop μ-loop
-array-read-print-decimal c = search needs
+shared-slice-read-print-decimal : tie.Need-shared-slice-read-print-decimal Inv-loop μ-loop
+shared-slice-read-print-decimal c = omega arith
 
 print-decimal-requires : tie.Need-print-decimal-requires Inv-loop μ-loop
 print-decimal-requires c κs = search needs
@@ -50,7 +51,7 @@ show-spec =
     slice-aggregate-write-all
     write-all-requires
     mul-print-decimal
-    array-read-print-decimal
+    shared-slice-read-print-decimal
     print-decimal-requires
     add-i
     loop-less
