@@ -1,4 +1,4 @@
--- What `report`, `admit` and the layouts answer, from what `lay_out` gives.
+-- What `report`, `check_given` and the layouts answer, from what `lay_out` gives.
 use Prim.Native.Nat.{ℕ, _+_, _-_, _≤_, _<_, max}
 use native.Mathlib.Omega.{arith}
 use native.Mathlib.Nat.{add-zero, zero-add}
@@ -162,7 +162,7 @@ module _ (width : ℕ) (ps : List Piece) (v : Cursor) (l l′ : List ℕ) (emitt
   unfolding listed
   reported-listed a e = ap₂ (λ (x : Laid) (y : List ℕ). record { answer = x; listing = y }) (e ∙ answer-is) (emitted .bytes)
 
--- ---- `admit`, `layout`
+-- ---- `check_given`, `layout`
 
 -- an admitted document and width keep the rules; where they are not admitted, `outcome` is that, and the area as it was
 abbrev pub Admits : List ℕ → ℕ → List ℕ → ℕ → ℕ → Admission → Type 0
@@ -216,6 +216,6 @@ module _ (rows : List ℕ) (count : ℕ) (texts : List ℕ) (total width : ℕ) 
       by true false false p q r =
           (record { counts = p; faultless = no-fault p (fault rows total count) refl (ltb-false _ _ q) }, ltb-false _ _ r)
 
-  -- of what `admit` gave, once it is known which case that is
+  -- of what `check_given` gave, once it is known which case that is
   pub means-of : {v a : Admission} → v ≡ a → v ≡ admission rows count texts total width → Admits rows count texts total width a
   means-of e q = subst (Admits rows count texts total width) (sym q ∙ e) admission-means

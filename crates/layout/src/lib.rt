@@ -43,7 +43,7 @@ pub enum Admission {
 }
 
 // 9, then 6: what a layout refuses before it lays out a row.
-pub fn admit(rows: &[u32], count: usize, text: &[u8], total: usize, width: usize) -> Admission
+pub fn check_given(rows: &[u32], count: usize, text: &[u8], total: usize, width: usize) -> Admission
     ensures { λ v. ⌜ v ≡ admission (was rows) count (was text) total width ⌝ }
 {
     if !counts_ok(rows.len(), count, text.len(), total) {
@@ -107,7 +107,7 @@ pub fn layout(
 ) -> Laid
     ensures { λ v. ⌜ Lists listing v (outcome (was rows) count (was text) total width) ⌝ }
 {
-    match admit(rows, count, text, total, width) {
+    match check_given(rows, count, text, total, width) {
         Admission::Admitted => layout_accepted(rows, count, text, total, width, listing),
         Admission::Document { row } => Laid::Document { row },
         Admission::Width => Laid::Width,

@@ -1,4 +1,4 @@
--- What `layout_pending` answers, from what `admit` and `layout_accepted` give; and that the two layouts agree.
+-- What `layout_pending` answers, from what `check_given` and `layout_accepted` give; and that the two layouts agree.
 use Prim.Native.Nat.{ℕ, _*_, _≤_, _<_}
 use mathlib.Core.Bool.{Bool, true, false, cond}
 use mathlib.Core.List.{List}

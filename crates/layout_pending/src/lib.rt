@@ -2,7 +2,7 @@
 use document::sink::clear_words;
 use layout::Admission;
 use layout::Laid;
-use layout::admit;
+use layout::check_given;
 use layout::report;
 use turns::lay_out_pending;
 ghost use Prim.Native.Nat.{_*_, _≤_};
@@ -53,7 +53,7 @@ pub fn layout_pending(
 ) -> LaidPending
     ensures { λ v. ⌜ ListsPending pending listing v (outcomePending (was rows) count (was text) total width) ⌝ }
 {
-    match admit(rows, count, text, total, width) {
+    match check_given(rows, count, text, total, width) {
         Admission::Document { row } => LaidPending::Laid {
             laid: Laid::Document { row },
         },

@@ -3,8 +3,8 @@ use lib.ListN.{length}
 use borrow.Author.Tests.{not-true, not-false}
 use Rattle.document.proofs.Faults.{counts}
 use Rattle.layout.proofs.Answers.{admission-counts, admission-fault, no-fault, admission-width, admission-none}
-use Rattle.layout.proofs.admit.Statement.{statement}
-use Rattle.layout.proofs.admit.Tie as tie
+use Rattle.layout.proofs.check_given.Statement.{statement}
+use Rattle.layout.proofs.check_given.Tie as tie
 
 counts-ok-requires : tie.Need-counts-ok-requires
 counts-ok-requires c κs = tt
@@ -49,5 +49,5 @@ returns-4 c =
     let good = no-fault (a .rows .now) (a .count) (a .text .now) (a .total) (a .width) ok (at-find-fault .find-fault .result) (at-find-fault .find-fault .ensures) (c .before .if2 .left) in
     admission-none (a .rows .now) (a .count) (a .text .now) (a .total) (a .width) ok good (c .if3 .left)
 
-pub admit-spec : {M : Type 1} → statement M
-admit-spec = tie.close (tie.spec counts-ok-requires returns find-fault-requires returns-2 returns-3 returns-4)
+pub check-given-spec : {M : Type 1} → statement M
+check-given-spec = tie.close (tie.spec counts-ok-requires returns find-fault-requires returns-2 returns-3 returns-4)
