@@ -9,7 +9,7 @@
  * holds no state, so calls in several threads do not disturb each other.
  *
  * Machine stack. 8 MiB are enough for every call; the main thread has them as a rule, other threads often have less.
- * tilusorgu_layout_pending was measured to need at most 4 KiB, whatever the document: it has no deep calls.
+ * tilusorgu_layout_pending needs less than 4 KiB, whatever the document: it has no deep calls.
  *
  * Answers. Each call returns the refusal number, 0 for none, and fills `out`, eight numbers of 64 bits:
  *

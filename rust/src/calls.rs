@@ -131,7 +131,7 @@ pub fn layout(given: Given<'_>, width: u32, listing: &mut [u8]) -> Result<Counts
 
 /// [`layout`] with a lent pending area of at least three words for each document row, which is left zero. Refuses 9, 6, 30 and 22.
 ///
-/// It runs right here and not in [`with_stack`]: it goes over the document in loops, so a few KiB of machine stack are enough for it.
+/// It runs right here and not in [`with_stack`]: it goes over the document in loops, and less than 4 KiB of machine stack are enough for it.
 pub fn layout_pending(given: Given<'_>, width: u32, pending: &mut [u32], listing: &mut [u8]) -> Result<Counts, Refusal> {
     let mut out = [0; 8];
     // Sound: as above; that the counts may exceed their slices, or the pending area, is for the call to refuse.
