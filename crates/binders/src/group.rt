@@ -2,9 +2,9 @@
 use crate::runs::Reached;
 use crate::runs::pp_binder_name;
 use basics::bools::both;
+use difference::trees::same_lifted;
 use document::sink::Sink;
 use document::sink::put_break;
-use equality::trees::same_lifted;
 use pieces::words::end_tile;
 use pool::fields::binder_body;
 use pool::fields::binder_style;

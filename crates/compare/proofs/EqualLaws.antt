@@ -5,7 +5,7 @@ use native.Mathlib.Numerals.{add-one}
 use mathlib.Core.Bool.{Bool, true, false, _&&_, cond}
 use mathlib.Core.List.{List}
 use mathlib.Core.Path.{_≡_, refl, sym, ap, ap₂, _∙_, subst}
-use lib.ListN.{length, set}
+use lib.ListN.{length}
 use lib.Dec.{ltb, eqb}
 use borrow.Author.Tests.{eq-eqb, ne-eqb, lt-ltb, le-ltb}
 use Rattle.basics.proofs.Booleans.{and-true}
@@ -21,13 +21,11 @@ use Rattle.pool.proofs.TreeLaws.{same-self}
 use Rattle.pool.proofs.RowUnfolds.{string-fits}
 use Rattle.pool.proofs.ExprUnfolds.{kind-small, depth-word, loose-word, label-word, var-at, sort-at, const-at, app-at, pi-at, lam-at, let-at, proj-at, nat-at, str-at}
 use Rattle.pool.proofs.ExprUnfolds.{sort-ok, const-ok, pi-ok, lam-ok, let-ok, proj-ok, nat-ok, str-ok}
-use Rattle.compare.specs.Seen.{packed, isHeld}
 use Rattle.pool.specs.Ready.{Ready}
 use Rattle.occurrence.specs.Parts.{firstPart, secondPart, bodyPart}
-use Rattle.compare.specs.Equal.{Quick, Compared, treesSame, EqualTrees, namesSame, levelsSame, besides, stringOf, fieldsSame, partsSame, ByParts, OneKind, TwoRows}
-use Rattle.compare.specs.Equal.{sameAt, TwoParts, Children}
-use Rattle.compare.proofs.SeenLaws.{holds-hit, holds-put}
-use Rattle.occurrence.proofs.PartLaws.{ten, first-lower, second-lower, body-lower}
+use Rattle.compare.specs.Equal.{Quick, treesSame, namesSame, levelsSame, besides, stringOf, fieldsSame, partsSame, ByParts, OneKind}
+use Rattle.compare.specs.Equal.{sameAt}
+use Rattle.occurrence.proofs.PartLaws.{ten}
 use Rattle.compare.proofs.LevelLaws.{they-differ, they-agree, they-may}
 
 -- ---- a first look
@@ -268,145 +266,6 @@ module _ (bs ns ws : List ℕ) (t : Tables) (a b kind : ℕ) (s : OneKind bs ns 
   pub const-lists : (x y : ℕ) → x ≡ exprWord ws a 2 → y ≡ exprWord ws b 2 → kind ≡ 2 → Ready bs ns ws t × (x < K ws) × (y < K ws)
   const-lists x y ex ey e =
       (s .ready, rw ex (const-ok pool (s .ready .sound) a (s .a-row) (at-a 2 e) .1), rw ey (const-ok pool (s .ready .sound) b (s .b-row) (at-b 2 e) .1))
-
--- ---- the parts
-
-module _ (bs ns ws : List ℕ) (t : Tables) (known : List ℕ) (d x y c : ℕ) (s : TwoParts bs ns ws t known d x y c) where
-  abbrev pool₁ : Pool
-  pool₁ = over bs ns ws
-
-  zeros-say : (i j : ℕ) → i ≡ 0 → eqb j 0 ≡ sameAt pool₁ d c i j
-  unfolding sameAt
-  zeros-say zero zero e = refl
-  zeros-say zero (suc j) e = lib.Dec.eqb·suc-zero j
-  zeros-say (suc i) j e = absurd (omega arith)
-
-  one-says : (i j : ℕ) → (i ≡ 0 → ⊥) → j ≡ 0 → false ≡ sameAt pool₁ d c i j
-  unfolding sameAt
-  one-says zero j n e = absurd (n refl)
-  one-says (suc i) zero n e = refl
-  one-says (suc i) (suc j) n e = absurd (omega arith)
-
-  both-say : (i j : ℕ) → (i ≡ 0 → ⊥) → (j ≡ 0 → ⊥) → treesSame pool₁ d c (i - 1) (j - 1) ≡ sameAt pool₁ d c i j
-  unfolding sameAt
-  both-say zero j n m = absurd (n refl)
-  both-say (suc i) zero n m = absurd (m refl)
-  both-say (suc i) (suc j) n m =
-      let ei : suc i - 1 ≡ i = omega arith in
-      let ej : suc j - 1 ≡ j = omega arith in
-      ap₂ (treesSame pool₁ d c) ei ej
-
-  pub none-there : x ≡ 0 → Compared (EqualTrees pool₁ d) (sameAt pool₁ d c x y) known (eqb y 0)
-  none-there e = record { answer = zeros-say x y e; holds = s .holds }
-
-  pub one-there : (x ≡ 0 → ⊥) → y ≡ 0 → Compared (EqualTrees pool₁ d) (sameAt pool₁ d c x y) known false
-  one-there n e = record { answer = one-says x y n e; holds = s .holds }
-
-  pub rows-there : (x ≡ 0 → ⊥) → (y ≡ 0 → ⊥) → TwoRows bs ns ws t known d (x - 1) (y - 1) c
-  rows-there n m =
-      record { ready = s .ready; a-row = omega (arith, s .x-row); b-row = omega (arith, s .y-row); room = omega (arith, s .room); holds = s .holds }
-
-  pub rows-say : (x ≡ 0 → ⊥) → (y ≡ 0 → ⊥) → (later : List ℕ) (v : Bool) → Compared (EqualTrees pool₁ d) (treesSame pool₁ d c (x - 1) (y - 1)) later v
-      → Compared (EqualTrees pool₁ d) (sameAt pool₁ d c x y) later v
-  rows-say n m later v r = record { answer = r .answer ∙ both-say x y n m; holds = r .holds }
-
-module _ (bs ns ws : List ℕ) (t : Tables) (known : List ℕ) (d a b c kind : ℕ) (s : Children bs ns ws t known d a b c kind) where
-  abbrev pool₂ : Pool
-  pool₂ = over bs ns ws
-
-  abbrev All : Bool
-  All = partsSame pool₂ d c a b kind
-
-  module _ (x y : ℕ) (ex : x ≡ firstPart ws a kind) (ey : y ≡ firstPart ws b kind) where
-    pub ask-firsts : (x ≤ a) × TwoParts bs ns ws t known d x y c
-    ask-firsts =
-        let g : x ≤ a = rw (ex, s .rows .a-kind) (first-lower pool₂ (s .rows .ready .sound) a (s .rows .a-row)) in
-        let h : y ≤ b = rw (ey, s .rows .b-kind) (first-lower pool₂ (s .rows .ready .sound) b (s .rows .b-row)) in
-        (g, record { ready = s .rows .ready; x-row = omega (arith, s .rows .a-row); y-row = omega (arith, s .rows .b-row); room = omega (arith, s .room); holds = s .holds })
-
-    module _ (known₁ : List ℕ) (v₁ : Bool) (c₁ : Compared (EqualTrees pool₂ d) (sameAt pool₂ d c x y) known₁ v₁) where
-      firsts-are : sameAt pool₂ d c (firstPart ws a kind) (firstPart ws b kind) ≡ v₁
-      firsts-are = sym (c₁ .answer ∙ ap₂ (sameAt pool₂ d c) ex ey)
-
-      pub firsts-differ : v₁ ≡ false → Compared (EqualTrees pool₂ d) All known₁ false
-      unfolding partsSame
-      firsts-differ e = record { answer = sym (rw (firsts-are, e)); holds = c₁ .holds }
-
-      module _ (y₁ : v₁ ≡ true) (u w : ℕ) (eu : u ≡ secondPart ws a kind) (ew : w ≡ secondPart ws b kind) where
-        pub ask-seconds : (u ≤ a) × TwoParts bs ns ws t known₁ d u w c
-        ask-seconds =
-            let g : u ≤ a = rw (eu, s .rows .a-kind) (second-lower pool₂ (s .rows .ready .sound) a (s .rows .a-row)) in
-            let h : w ≤ b = rw (ew, s .rows .b-kind) (second-lower pool₂ (s .rows .ready .sound) b (s .rows .b-row)) in
-            (g, record { ready = s .rows .ready; x-row = omega (arith, s .rows .a-row); y-row = omega (arith, s .rows .b-row); room = omega (arith, s .room); holds = c₁ .holds })
-
-        module _ (known₂ : List ℕ) (v₂ : Bool) (c₂ : Compared (EqualTrees pool₂ d) (sameAt pool₂ d c u w) known₂ v₂) where
-          seconds-are : sameAt pool₂ d c (secondPart ws a kind) (secondPart ws b kind) ≡ v₂
-          seconds-are = sym (c₂ .answer ∙ ap₂ (sameAt pool₂ d c) eu ew)
-
-          pub seconds-differ : v₂ ≡ false → Compared (EqualTrees pool₂ d) All known₂ false
-          unfolding partsSame
-          seconds-differ e = record { answer = sym (rw (firsts-are, y₁, seconds-are, e)); holds = c₂ .holds }
-
-          module _ (y₂ : v₂ ≡ true) (f g : ℕ) (ef : f ≡ bodyPart ws a kind) (eg : g ≡ bodyPart ws b kind) where
-            pub ask-bodies : (f ≤ a) × TwoParts bs ns ws t known₂ d f g (c + 1)
-            ask-bodies =
-                let l : f ≤ a = rw (ef, s .rows .a-kind) (body-lower pool₂ (s .rows .ready .sound) a (s .rows .a-row)) in
-                let h : g ≤ b = rw (eg, s .rows .b-kind) (body-lower pool₂ (s .rows .ready .sound) b (s .rows .b-row)) in
-                (l, record { ready = s .rows .ready; x-row = omega (arith, s .rows .a-row); y-row = omega (arith, s .rows .b-row); room = omega (arith, s .room); holds = c₂ .holds })
-
-            pub bodies-say : (known₃ : List ℕ) (v₃ : Bool) → Compared (EqualTrees pool₂ d) (sameAt pool₂ d (c + 1) f g) known₃ v₃
-                → Compared (EqualTrees pool₂ d) All known₃ v₃
-            unfolding partsSame
-            bodies-say known₃ v₃ c₃ =
-                let e : sameAt pool₂ d (suc c) (bodyPart ws a kind) (bodyPart ws b kind) ≡ v₃ =
-                rw (← add-one c, ← ef, ← eg) (sym (c₃ .answer)) in
-                record { answer = sym (rw (firsts-are, y₁, seconds-are, y₂, e)); holds = c₃ .holds }
-
--- ---- the rows
-
-module _ (bs ns ws : List ℕ) (t : Tables) (known : List ℕ) (d a b c : ℕ) (s : TwoRows bs ns ws t known d a b c) (q : ℕ)
-    (quick : Quick (treesSame (over bs ns ws) d c a b) (exprWord ws a 0 ≡ exprWord ws b 0) q) where
-  abbrev pool₃ : Pool
-  pool₃ = over bs ns ws
-
-  abbrev Same : Bool
-  Same = treesSame pool₃ d c a b
-
-  pub tree-differs : q ≡ 0 → Compared (EqualTrees pool₃ d) Same known false
-  tree-differs e = record { answer = sym (quick .different e); holds = s .holds }
-
-  pub tree-agrees : q ≡ 1 → Compared (EqualTrees pool₃ d) Same known true
-  tree-agrees e = record { answer = sym (quick .equal e); holds = s .holds }
-
-  module _ (n₀ : q ≡ 0 → ⊥) (n₁ : q ≡ 1 → ⊥) where
-    pub tree-held : (slot k : ℕ) (v : Bool) → k ≡ packed a b c → v ≡ isHeld known slot k → v ≡ true → Compared (EqualTrees pool₃ d) Same known true
-    tree-held slot k v ek ev y =
-        record { answer = sym (holds-hit (EqualTrees pool₃ d) known slot k a b c (s .holds) ek (sym ev ∙ y)); holds = s .holds }
-
-    module _ (kind : ℕ) (ek : kind ≡ exprWord ws a 0) where
-      pub one-kind : OneKind bs ns ws t a b kind
-      one-kind = record { ready = s .ready; a-row = s .a-row; b-row = s .b-row; a-kind = ek; b-kind = ek ∙ quick .left n₀ n₁ }
-
-      by : Same ≡ fieldsSame pool₃ d c a b kind && partsSame pool₃ d c a b kind
-      by = by-kind pool₃ (s .ready .sound) a b (s .a-row) (s .b-row) d c kind (sym ek) (sym (ek ∙ quick .left n₀ n₁))
-
-      module _ (v : Bool) (ev : v ≡ fieldsSame pool₃ d c a b kind) where
-        pub fields-differ : v ≡ false → Compared (EqualTrees pool₃ d) Same known false
-        fields-differ e = record { answer = sym (by ∙ rw (← ev, e)); holds = s .holds }
-
-        module _ (y : v ≡ true) where
-          pub ask-children : Children bs ns ws t known d a b c kind
-          ask-children = record { rows = one-kind; room = s .room; holds = s .holds }
-
-          module _ (known₁ : List ℕ) (v₁ : Bool) (c₁ : Compared (EqualTrees pool₃ d) (partsSame pool₃ d c a b kind) known₁ v₁) where
-            pub children-differ : v₁ ≡ false → Compared (EqualTrees pool₃ d) Same known₁ false
-            children-differ e = record { answer = sym (by ∙ rw (← ev, y, ← c₁ .answer, e)); holds = c₁ .holds }
-
-            pub children-agree : v₁ ≡ true → (slot k : ℕ) (known₂ : List ℕ) → k ≡ packed a b c → known₂ ≡ set known₁ slot k
-                → Compared (EqualTrees pool₃ d) Same known₂ true
-            children-agree e slot k known₂ kk e₂ =
-                let r : Same ≡ true = by ∙ rw (← ev, y, ← c₁ .answer, e) in
-                record { answer = sym r; holds = rw e₂ (holds-put (EqualTrees pool₃ d) known₁ slot k a b c (c₁ .holds) kk r) }
 
 -- ---- all but the parts
 

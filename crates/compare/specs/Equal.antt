@@ -105,10 +105,6 @@ sameAt p d c zero (suc b) = false
 sameAt p d c (suc a) zero = false
 sameAt p d c (suc a) (suc b) = same (lift d c (exprAt p a)) (exprAt p b)
 
--- (row, row, from where on): the trees are equal
-abbrev pub EqualTrees : Pool → ℕ → ℕ → ℕ → ℕ → Type 0
-EqualTrees p d a b c = treesSame p d c a b ≡ true
-
 abbrev pub namesSame : Pool → ℕ → ℕ → Bool
 namesSame p a b = sameShape (nameShape (nameAt p a)) (nameShape (nameAt p b))
 
@@ -147,23 +143,3 @@ pub record OneKind (bs ns ws : List ℕ) (t : Tables) (a b kind : ℕ) : Type 0 
   pub b-row : b < E ws
   pub a-kind : kind ≡ exprWord ws a 0
   pub b-kind : kind ≡ exprWord ws b 0
-
--- two rows are to be compared; c has room to rise by one for each row below a
-pub record TwoRows (bs ns ws : List ℕ) (t : Tables) (known : List ℕ) (d a b c : ℕ) : Type 0 where
-  pub ready : Ready bs ns ws t
-  pub a-row : a < E ws
-  pub b-row : b < E ws
-  pub room : c + a < 1099511627776
-  pub holds : Holds (EqualTrees (over bs ns ws) d) known
-
-pub record TwoParts (bs ns ws : List ℕ) (t : Tables) (known : List ℕ) (d x y c : ℕ) : Type 0 where
-  pub ready : Ready bs ns ws t
-  pub x-row : x ≤ E ws
-  pub y-row : y ≤ E ws
-  pub room : c + x ≤ 1099511627776
-  pub holds : Holds (EqualTrees (over bs ns ws) d) known
-
-pub record Children (bs ns ws : List ℕ) (t : Tables) (known : List ℕ) (d a b c kind : ℕ) : Type 0 where
-  pub rows : OneKind bs ns ws t a b kind
-  pub room : c + a < 1099511627776
-  pub holds : Holds (EqualTrees (over bs ns ws) d) known

@@ -27,14 +27,6 @@ pub fn slot(k: usize, len: usize) -> usize {
     k % 4294967291 * 2654435761 / 65536 % len
 }
 
-// The same where a is a row and b a variable of it: at 256 a + b, so that rows near each other have no slot in common.
-pub fn row_slot(k: usize, len: usize) -> usize {
-    if len == 0 {
-        return 0;
-    }
-    (k / 274877906944 * 256 + k / 16384 % 16777216) % len
-}
-
 pub fn held(seen: &[usize], slot: usize, k: usize) -> bool
     ensures { λ v. ⌜ v ≡ isHeld (now (seen .entry)) slot k ⌝ }
 {

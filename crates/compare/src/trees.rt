@@ -1,9 +1,7 @@
-// Equality of the trees of two rows, the first one lifted.
+// All fields of two rows but their parts, the first row lifted.
 use super::levels;
 use super::lists;
 use super::names;
-use super::seen;
-use occurrence::parts;
 use pool::fields;
 use pool::kinds::EXPR_APP;
 use pool::kinds::EXPR_CONST;
@@ -19,13 +17,13 @@ ghost use Prim.Native.Nat.{_+_, _<_};
 ghost use lib.Dec.{ltb, eqb};
 ghost use Rattle.pool.specs.Areas.{WordsOf, lent};
 ghost use Rattle.pool.specs.Tables.{E, exprWord};
-ghost use Rattle.pool.specs.Tree.{levelShapes, sameShapes, same, lift};
-ghost use Rattle.pool.specs.Unfold.{listAt, exprAt};
+ghost use Rattle.pool.specs.Tree.{levelShapes, sameShapes};
+ghost use Rattle.pool.specs.Unfold.{listAt};
 ghost use Rattle.pool.specs.Ready.{Ready};
-ghost use Rattle.compare.specs.Equal.{Quick, Compared, treesSame, sameAt, EqualTrees, namesSame, besides, fieldsSame, partsSame, ByParts, OneKind, TwoRows, TwoParts, Children};
+ghost use Rattle.compare.specs.Equal.{Quick, treesSame, namesSame, besides, fieldsSame, ByParts, OneKind};
 
 // A first look: 0 where they differ, 1 where they are equal, 2 where they are of one kind and may be either.
-fn glance(
+pub fn glance(
     bytes: &[u8],
     names: &[u32],
     words: &[u32],
@@ -138,7 +136,8 @@ fn same_named(
     tables::expr_word(words, t, a, number) == tables::expr_word(words, t, b, number)
 }
 
-fn fields(
+// The fields of two rows of one kind that are no parts, the first row lifted by d from c on.
+pub fn same_fields(
     bytes: &[u8],
     names: &[u32],
     words: &[u32],
@@ -174,117 +173,6 @@ fn fields(
     names::same_string(bytes, names, string_a, string_b)
 }
 
-// Two rows are compared once for each c, unless what was answered of them was overwritten.
-fn tree(
-    bytes: &[u8],
-    names: &[u32],
-    words: &[u32],
-    t: Tables,
-    known: &mut [usize],
-    d: usize,
-    a: usize,
-    b: usize,
-    c: usize,
-) -> bool
-    requires { ⌜ TwoRows (now bytes) (now names) (now words) t (now known) d a b c ⌝ }
-    ensures { λ v. ⌜ Compared (EqualTrees (lent bytes names words) d) (treesSame (lent bytes names words) d c a b)
-        (now (known .exit)) v ⌝ }
-{
-    let quick = glance(bytes, names, words, t, d, a, b, c);
-    if quick == 0 {
-        return false;
-    }
-    if quick == 1 {
-        return true;
-    }
-    let key = seen::key(a, b, c);
-    let at = seen::slot(key, known.len());
-    if seen::held(known, at, key) {
-        return true;
-    }
-    let kind = fields::expr_kind(words, t, a);
-    if !fields(bytes, names, words, t, d, a, b, c, kind) {
-        return false;
-    }
-    if !children(bytes, names, words, t, known, d, a, b, c, kind) {
-        return false;
-    }
-    seen::keep(known, at, key);
-    true
-}
-
-fn children(
-    bytes: &[u8],
-    names: &[u32],
-    words: &[u32],
-    t: Tables,
-    known: &mut [usize],
-    d: usize,
-    a: usize,
-    b: usize,
-    c: usize,
-    kind: usize,
-) -> bool
-    requires { ⌜ Children (now bytes) (now names) (now words) t (now known) d a b c kind ⌝ }
-    ensures { λ v. ⌜ Compared (EqualTrees (lent bytes names words) d) (partsSame (lent bytes names words) d c a b kind)
-        (now (known .exit)) v ⌝ }
-{
-    let first_a = parts::first_part(words, t, a, kind);
-    let first_b = parts::first_part(words, t, b, kind);
-    if !pair(bytes, names, words, t, known, d, first_a, first_b, c) {
-        return false;
-    }
-    let second_a = parts::second_part(words, t, a, kind);
-    let second_b = parts::second_part(words, t, b, kind);
-    if !pair(bytes, names, words, t, known, d, second_a, second_b, c) {
-        return false;
-    }
-    let body_a = parts::body_part(words, t, a, kind);
-    let body_b = parts::body_part(words, t, b, kind);
-    pair(bytes, names, words, t, known, d, body_a, body_b, c + 1)
-}
-
-fn pair(
-    bytes: &[u8],
-    names: &[u32],
-    words: &[u32],
-    t: Tables,
-    known: &mut [usize],
-    d: usize,
-    x: usize,
-    y: usize,
-    c: usize,
-) -> bool
-    requires { ⌜ TwoParts (now bytes) (now names) (now words) t (now known) d x y c ⌝ }
-    ensures { λ v. ⌜ Compared (EqualTrees (lent bytes names words) d) (sameAt (lent bytes names words) d c x y)
-        (now (known .exit)) v ⌝ }
-{
-    if x == 0 {
-        return y == 0;
-    }
-    if y == 0 {
-        return false;
-    }
-    tree(bytes, names, words, t, known, d, x - 1, y - 1, c)
-}
-
-// With a table: for rows past every array of a sweep, which an accepted pool has not.
-pub fn compare_all(
-    bytes: &[u8],
-    names: &[u32],
-    words: &[u32],
-    t: Tables,
-    a: usize,
-    b: usize,
-    d: usize,
-) -> bool
-    requires { ⌜ (Ready (now bytes) (now names) (now words) t) × (a < E (now words)) × (b < E (now words)) ⌝ }
-    ensures { λ v. ⌜ v ≡ same (lift d 0 (exprAt (lent bytes names words) a)) (exprAt (lent bytes names words) b) ⌝ }
-{
-    let mut known = [0usize; 2048];
-    tree(bytes, names, words, t, &mut known, d, a, b, 0)
-}
-
 // What two rows are but for their parts: 0 where they differ, 1 where they are equal, 2 where their parts say.
 pub fn agree(
     bytes: &[u8],
@@ -304,7 +192,7 @@ pub fn agree(
         return quick;
     }
     let kind = fields::expr_kind(words, t, a);
-    if !fields(bytes, names, words, t, d, a, b, c, kind) {
+    if !same_fields(bytes, names, words, t, d, a, b, c, kind) {
         return 0;
     }
     2

@@ -1,3 +1,2 @@
 pub mod MoveLaws
 pub mod SweepLaws
-pub mod TryLaws

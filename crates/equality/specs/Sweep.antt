@@ -1,11 +1,9 @@
 -- What a sweep by levels owes: in one array that trees lifted from c on are trees of rows, in a second that trees lifted from c + 1 on are, in a third that
 -- trees of two rows are equal (links/Links).
-use Prim.Native.Nat.{ℕ, zero, suc, _+_, _<_, _≤_}
+use Prim.Native.Nat.{ℕ, zero, suc, _+_}
 use mathlib.Core.List.{List}
 use mathlib.Core.Path.{_≡_}
-use Rattle.pool.specs.declared.tables.Tables.{Tables}
-use Rattle.pool.specs.Tables.{Pool, E, exprWord}
-use Rattle.pool.specs.Ready.{Ready}
+use Rattle.pool.specs.Tables.{Pool, exprWord}
 use Rattle.pool.specs.Tree.{Shape, shape, lift}
 use Rattle.pool.specs.Unfold.{exprAt}
 use Rattle.occurrence.specs.Parts.{firstPart, secondPart, bodyPart}
@@ -54,13 +52,6 @@ pub record PutPart (array owed array′ owed′ : List ℕ) (x y v : ℕ) : Type
 
 pub record LinkPart (owed owed′ : List ℕ) (x y v : ℕ) : Type 0 where
   pub moved : (S : ℕ → Shape) → Moved (Owes S S owed × Tied S S x y) (Owes S S owed′) v
-
--- two parts are to be compared; c has room to rise by one for each row below x
-pub record TwoParts (bs ns ws : List ℕ) (t : Tables) (x y c : ℕ) : Type 0 where
-  pub ready : Ready bs ns ws t
-  pub x-row : x ≤ E ws
-  pub y-row : y ≤ E ws
-  pub room : c + x ≤ 1099511627776
 
 -- all parts of two rows of one kind
 pub record PutParts (ws : List ℕ) (a b : ℕ) (cur next owed cur′ next′ owed′ : List ℕ) (v : ℕ) : Type 0 where

@@ -1,4 +1,3 @@
-// Equality of trees after lifting: in few steps, or by a sweep over the rows for each level of binders.
+// Equality of trees after lifting: a sweep over the rows for each level of binders.
 pub mod puts;
 pub mod sweep;
-pub mod trees;

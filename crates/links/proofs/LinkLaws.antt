@@ -65,7 +65,7 @@ sorted S x y e = by (ltb x y) refl
         let u : max x y ≡ x = omega arith in
         sym (ap S u) ∙ e ∙ ap S s
 
-unsorted : (S : ℕ → Shape) (x y : ℕ) → S x ≡ S y → S (max x y) ≡ S (min x y)
+pub unsorted : (S : ℕ → Shape) (x y : ℕ) → S x ≡ S y → S (max x y) ≡ S (min x y)
 unsorted S x y e = by (ltb x y) refl
   where
     by : (b : Bool) → ltb x y ≡ b → S (max x y) ≡ S (min x y)

@@ -31,7 +31,8 @@ pub fn row_at(owed: &[u32], x: usize) -> usize
     wide(owed[x])
 }
 
-fn owe(owed: &mut [u32], x: usize, m: usize)
+// Henceforth x has to be m, whatever it had to be.
+pub fn owe(owed: &mut [u32], x: usize, m: usize)
     requires { ⌜ (x < length (now owed)) × (m < 65536) ⌝ }
     ensures { λ _. ⌜ now (owed .exit) ≡ set (now (owed .entry)) x (m + 1) ⌝ }
 {

@@ -14,7 +14,7 @@ use Rattle.pool_check.specs.declared.Verdict.{Verdict}
 use Rattle.lister.specs.declared.Answer.{Answer}
 use Rattle.lister.specs.declared.Answer.the-variants.{Pool}
 use Rattle.lister.specs.Answers.{number, refusal, stopAnswer, ofLaid}
-use Rattle.lister.specs.Source.{isAccepted}
+use Rattle.pool_check.specs.Check.{isAccepted}
 use Rattle.lister.specs.Prints.{Areas, Outcome, untouched, documentCleared, documentListed, afterWalk, printDoc, checked}
 
 -- a print that has begun answers 0, or 7 and more

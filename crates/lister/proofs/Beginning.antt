@@ -1,25 +1,18 @@
 -- What is tested before a print begins.
 use Prim.Native.Nat.{ℕ}
-use native.Mathlib.Omega.{arith}
 use mathlib.Core.Bool.{Bool, true, false, _&&_, cond}
-use mathlib.Core.List.{[], _∷_}
-use mathlib.Core.Logic.{⊎-elim}
 use mathlib.Core.Path.{_≡_, refl, sym, ap, _∙_}
 use lib.Dec.{ltb, leb}
-use types.Run.{OneOf}
-use denote.Enum.Declared.{tagOf}
 use Rattle.basics.proofs.Booleans.{and-both, false-true, true-false}
-use Rattle.pool_check.proofs.Verdict as the-verdicts
 use borrow.Author.Tests.{ltb-true, leb-true}
 use Rattle.pool.specs.declared.tables.Tables.{Tables}
 use Rattle.pool_check.specs.declared.Verdict.{Verdict}
-use Rattle.pool_check.specs.declared.Verdict.the-variants as verdicts
 use Rattle.pool.specs.Areas.{TablesOf}
-use Rattle.pool_check.specs.Check.{number}
-use Rattle.pool_check.proofs.Acceptance.{accepted}
+use Rattle.pool_check.specs.Check.{isAccepted}
+use Rattle.pool_check.proofs.Acceptance.{accepted, accepted-is}
 use Rattle.lister.specs.declared.Answer.{Answer}
 use Rattle.lister.specs.declared.Answer.the-variants.{Pool, Root, Size}
-use Rattle.lister.specs.Source.{Source, judged, isAccepted}
+use Rattle.lister.specs.Source.{Source, judged}
 use Rattle.lister.specs.Prints.{Areas, Outcome, untouched, sizesOk, checked}
 use Rattle.lister.specs.Stages.{mayPrint, refusal, Begins}
 
@@ -49,24 +42,6 @@ begun v present sizes print areas e = by (isAccepted v) present sizes e
     by true true false e = false-true e
     by true false s e = false-true e
     by false p s e = false-true e
-
-pub accepted-is : (v : Verdict) → isAccepted v ≡ true → v ≡ verdicts.Accepted
-unfolding isAccepted number
-accepted-is verdicts.Accepted e = refl
-accepted-is verdicts.Words e = false-true e
-accepted-is verdicts.Limit e = false-true e
-accepted-is (verdicts.Strings row) e = false-true e
-accepted-is (verdicts.Rows row) e = false-true e
-
--- what the code's last arm knows: the verdict is none of the cases before it
-pub refused-is : (v : Verdict) → OneOf (1 ∷ 2 ∷ 3 ∷ 4 ∷ []) (tagOf the-verdicts.the-type v) → false ≡ isAccepted v
-unfolding isAccepted number
-refused-is verdicts.Accepted other = absurd
-    (⊎-elim (λ e. omega arith) (⊎-elim (λ e. omega arith) (⊎-elim (λ e. omega arith) (λ e. omega arith))) other)
-refused-is verdicts.Words other = refl
-refused-is verdicts.Limit other = refl
-refused-is (verdicts.Strings row) other = refl
-refused-is (verdicts.Rows row) other = refl
 
 pub begins : (source : Source) (t : Tables) (root count indent width : ℕ) → TablesOf (source .words) (source .words) t
     → mayPrint (judged source) (ltb root count) (sizesOk indent width) ≡ true

@@ -14,14 +14,14 @@ use Rattle.document.proofs.Faults.{counts, accepted-sound}
 use Rattle.pool.specs.Tables.{S, stringWord, stringAt}
 use Rattle.pool.specs.Rules.{rising, stringOk}
 use Rattle.pool.proofs.Clips.{part-clip}
-use Rattle.pool_check.proofs.Acceptance.{accepted}
+use Rattle.pool_check.specs.Check.{isAccepted}
+use Rattle.pool_check.proofs.Acceptance.{accepted, accepted-is}
 use Rattle.utf8.specs.Utf8.{utf8}
 use Rattle.lister.specs.declared.Part.{Part}
 use Rattle.lister.specs.declared.Handed.{Handed}
 use Rattle.lister.specs.declared.Handed.the-variants.{Text, String}
-use Rattle.lister.specs.Source.{Source, poolOf, judged, isAccepted}
+use Rattle.lister.specs.Source.{Source, poolOf, judged}
 use Rattle.lister.specs.Handing.{span, empty, hasText, textSpan, hasString, stringSpan, spanOf, areaOf, handOut}
-use Rattle.lister.proofs.Beginning.{accepted-is}
 
 -- a part that is cut off at the end of the list: first its start, then its length
 pub part-from : (l : List ℕ) (a b from size : ℕ) → from ≡ min a (length l) → size ≡ min b (length l - from) → take (from + size - from) (drop from l) ≡ take b (drop a l)

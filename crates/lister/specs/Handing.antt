@@ -7,7 +7,8 @@ use lib.Dec.{ltb, eqb}
 use lib.ListN.{length, take, drop}
 use Rattle.document.specs.Rows.{word, fault, countsOk}
 use Rattle.pool.specs.Tables.{S, stringWord}
-use Rattle.lister.specs.Source.{Source, judged, isAccepted}
+use Rattle.pool_check.specs.Check.{isAccepted}
+use Rattle.lister.specs.Source.{Source, judged}
 use Rattle.lister.specs.declared.Part.{Part}
 use Rattle.lister.specs.declared.Handed.{Handed}
 use Rattle.lister.specs.declared.Handed.the-variants.{Text, String}

@@ -15,10 +15,11 @@ use Rattle.pool.specs.Unfold.{exprAt, declarAt}
 use Rattle.binders.specs.Options.{indented}
 use Rattle.pretty_printer.specs.Exprs.{exprDoc}
 use Rattle.declarations.specs.Declars.{declarDoc}
+use Rattle.pool_check.specs.Check.{isAccepted}
 use Rattle.lister.specs.declared.Answer.{Answer}
 use Rattle.lister.specs.declared.Answer.the-variants.{Pool}
 use Rattle.lister.specs.Answers.{stopAnswer, refusal, ofLaid}
-use Rattle.lister.specs.Source.{Source, poolOf, judged, isAccepted}
+use Rattle.lister.specs.Source.{Source, poolOf, judged}
 
 -- "the lent areas are those a call may write"
 pub record Areas : Type 0 where

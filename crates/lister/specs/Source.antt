@@ -1,11 +1,9 @@
 -- What a call is given to print from.
 use Prim.Native.Nat.{ℕ}
-use mathlib.Core.Bool.{Bool}
 use mathlib.Core.List.{List}
-use lib.Dec.{eqb}
 use Rattle.pool_check.specs.declared.Verdict.{Verdict}
 use Rattle.pool.specs.Tables.{Pool, pool}
-use Rattle.pool_check.specs.Check.{number, verdict}
+use Rattle.pool_check.specs.Check.{verdict}
 
 -- "A byte area .. and u32 words"
 pub record Source : Type 0 where
@@ -18,7 +16,3 @@ poolOf s = pool (s .bytes) (s .words)
 -- what check says of it
 abbrev pub judged : Source → Verdict
 judged s = verdict (s .bytes) (s .words)
-
--- "An accepted pool is one that check refuses under no number"
-unfoldable pub isAccepted : Verdict → Bool
-isAccepted v = eqb (number v) 0

@@ -14,7 +14,7 @@ use Rattle.binders.specs.Asked.{Pooled}
 use Rattle.lister.specs.declared.Answer.{Answer}
 use Rattle.lister.specs.declared.Answer.the-variants.{Pool, Root, Size}
 use Rattle.lister.specs.Answers.{stopAnswer, ofLaid}
-use Rattle.lister.specs.Source.{isAccepted}
+use Rattle.pool_check.specs.Check.{isAccepted}
 use Rattle.lister.specs.Prints.{Areas, Outcome, documentCleared}
 
 -- ---- before a print

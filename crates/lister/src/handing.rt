@@ -1,6 +1,5 @@
 // The parts of the areas that are handed out.
 use crate::Part;
-use crate::is_accepted;
 use basics::bools::both;
 use basics::numbers::lesser;
 use document::check::counts_ok;
@@ -10,6 +9,7 @@ use pool::kinds::LENGTH;
 use pool::kinds::OFFSET;
 use pool::tables::string_word;
 use pool::tables::tables_of;
+use pool_check::is_accepted;
 ghost use mathlib.Core.Path.{_≡_};
 ghost use Rattle.basics.specs.Lent.{was};
 ghost use Rattle.lister.specs.Handing.{hasText, textSpan, hasString, stringSpan, partOf};

@@ -1,7 +1,8 @@
-// The calls: check, print expression, print declaration, the two layouts of a given document, handing out.
+// The calls: check, print expression, print declaration, the two layouts of a given document, handing out, comparing two expression rows.
 use basics::bools::both;
 use checked::print_checked_declar;
 use checked::print_checked_expr;
+use comparison::Compared;
 use handing::part;
 use handing::string_span;
 use handing::text_span;
@@ -10,15 +11,17 @@ use layout::Laid;
 use layout_pending::LaidPending;
 use pool::tables::tables_of;
 use pool_check::Verdict;
+use pool_check::is_accepted;
 ghost use mathlib.Core.Bool.{cond};
 ghost use mathlib.Core.Path.{_≡_};
+ghost use Rattle.comparison.specs.Call.{comparison};
 ghost use Rattle.layout.specs.Call.{outcome};
 ghost use Rattle.basics.specs.Lent.{was};
 ghost use Rattle.layout.specs.Frames.{Lists};
 ghost use Rattle.layout_pending.specs.Call.{outcomePending};
 ghost use Rattle.layout_pending.specs.Frames.{ListsPending};
 ghost use Rattle.lister.specs.declared.Answer.{Answer};
-ghost use Rattle.lister.specs.Source.{judged, isAccepted};
+ghost use Rattle.lister.specs.Source.{judged};
 ghost use Rattle.lister.specs.Prints.{sizesOk, printExpr, printDeclar};
 ghost use Rattle.lister.specs.Handing.{spanOf, handOut};
 ghost use Rattle.lister.specs.Frames.{given, Prints};
@@ -65,16 +68,6 @@ fn sizes_ok(indent: usize, width: usize) -> bool
     ensures { λ v. ⌜ v ≡ sizesOk indent width ⌝ }
 {
     both(indent <= 64, width <= 65535)
-}
-
-// Whether check found nothing.
-fn is_accepted(v: Verdict) -> bool
-    ensures { λ r. ⌜ r ≡ isAccepted v ⌝ }
-{
-    match v {
-        Verdict::Accepted => true,
-        _ => false,
-    }
 }
 
 // Whether a print may begin.
@@ -241,4 +234,11 @@ pub fn hand_out<'a>(
         Handed::Text { row } => part(text, text_span(rows, count, text, total, row)),
         Handed::String { row } => part(bytes, string_span(bytes, words, row)),
     }
+}
+
+// Compares two expression rows, from the back: their trees are equal, or the first pair of rows that differ.
+pub fn compare(bytes: &[u8], words: &[u32], first: usize, second: usize) -> Compared
+    ensures { λ v. ⌜ v ≡ comparison (was bytes) (was words) first second ⌝ }
+{
+    comparison::compare(bytes, words, first, second)
 }

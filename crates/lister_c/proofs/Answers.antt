@@ -4,15 +4,17 @@ use mathlib.Core.Path.{_≡_, ap, _∙_}
 use mathlib.Core.List.{List, [], _∷_}
 use Prim.Native.Nat.{ℕ}
 use Rattle.pool_check.specs.declared.Verdict.{Verdict}
+use Rattle.comparison.specs.declared.Compared.{Compared}
 use Rattle.layout.specs.declared.Laid.{Laid}
 use Rattle.layout.specs.Call.{Outcome}
 use Rattle.layout_pending.specs.declared.LaidPending.{LaidPending}
 use Rattle.layout_pending.specs.Call as pendings
 use Rattle.lister_c.specs.declared.Report.{Report}
+use Rattle.lister_c.specs.declared.PairReport.{PairReport}
 use Rattle.lister.specs.declared.Answer.{Answer}
 use Rattle.lister.specs.declared.Part.{Part}
 use Rattle.lister.specs.Prints as prints
-use Rattle.lister_c.specs.Reports.{Checked, LaidOut, LaidOutPending, Printed, ofVerdict, ofLaid, ofLaidPending, ofAnswer, put, putWords, checked, laid, laidPending, printed, handed}
+use Rattle.lister_c.specs.Reports.{Checked, LaidOut, LaidOutPending, Printed, ofVerdict, ofLaid, ofLaidPending, ofAnswer, put, putWords, checked, laid, laidPending, printed, handed, ofCompared, pairWords, compared}
 
 abbrev pub answer : ℕ → List ℕ → Checked
 answer number out = record { number = number; out = out }
@@ -87,3 +89,14 @@ pub hand-out-answer :
     → answer 0 last ≡ handed q out
 unfolding handed
 hand-out-answer {p} {q} out part filled = ap (answer 0) filled ∙ ap (λ (x : Part). handed x out) part
+
+pub compare-answer :
+    {v w : Compared} {r : PairReport} {last : List ℕ} (out : List ℕ)
+    → v ≡ w
+    → r ≡ ofCompared v
+    → last ≡ putWords out (pairWords r)
+    → answer (r .number) last ≡ compared w out
+unfolding compared ofCompared
+compare-answer {v} {w} {r} out comparison report filled =
+    ap (answer (r .number)) filled
+    ∙ (ap (λ (x : PairReport). answer (x .number) (putWords out (pairWords x))) report ∙ ap (λ (x : Compared). compared x out) comparison)

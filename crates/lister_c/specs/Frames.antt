@@ -5,12 +5,13 @@ use mathlib.Core.Path.{_≡_}
 use Prim.Native.Nat.{ℕ}
 use Rattle.pool_check.specs.declared.Verdict.{Verdict}
 use Rattle.basics.specs.Lent.{Area, was, left}
+use Rattle.comparison.specs.declared.Compared.{Compared}
 use Rattle.layout.specs.Call as call
 use Rattle.layout_pending.specs.Call as pendings
 use Rattle.lister.specs.declared.Part.{Part}
 use Rattle.lister.specs.Prints as prints
 use Rattle.lister.specs.Frames.{lentAreas, leftAreas}
-use Rattle.lister_c.specs.Reports.{checked, laid, laidPending, printed, handed}
+use Rattle.lister_c.specs.Reports.{checked, laid, laidPending, printed, handed, compared}
 
 abbrev pub Checks : Area → ℕ → Verdict → Type 0
 Checks out v verdict = record { number = v; out = left out } ≡ checked verdict (was out)
@@ -30,3 +31,6 @@ Prints rows text listing out v defined =
 
 abbrev pub HandsOut : Area → ℕ → Part → Type 0
 HandsOut out v p = record { number = v; out = left out } ≡ handed p (was out)
+
+abbrev pub ComparesRows : Area → ℕ → Compared → Type 0
+ComparesRows out v c = record { number = v; out = left out } ≡ compared c (was out)

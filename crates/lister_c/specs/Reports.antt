@@ -6,6 +6,9 @@ use lib.ListN.{length, drop}
 use lib.Dec.{ltb, eqb}
 use Rattle.pool_check.specs.declared.Verdict.{Verdict}
 use Rattle.pool_check.specs.Check as check
+use Rattle.comparison.specs.declared.Compared.{Compared}
+use Rattle.comparison.specs.declared.Compared.the-variants as compareds
+use Rattle.comparison.specs.Call as comparisons
 use Rattle.layout.specs.declared.Counts.{Counts}
 use Rattle.layout.specs.declared.Laid.{Laid}
 use Rattle.layout.specs.declared.Laid.the-variants.{Done, Document, Width, Listing}
@@ -23,6 +26,7 @@ use Rattle.lister.specs.Handing.{spanOf, empty}
 use Rattle.lister.specs.declared.Part.{Part}
 use Rattle.lister.specs.declared.Handed.the-variants.{Text, String}
 use Rattle.lister_c.specs.declared.Report.{Report}
+use Rattle.lister_c.specs.declared.PairReport.{PairReport}
 
 -- what does not apply is 0
 abbrev pub none : Counts
@@ -88,7 +92,7 @@ putWords out words = cond (ltb (length out) 8) out (words ++ drop 8 out)
 abbrev pub put : List ℕ → Report → List ℕ
 put out r = putWords out (eight r)
 
--- what `tilusorgu_check` and `tilusorgu_hand_out` return, and `out` afterwards
+-- what `tilusorgu_check`, `tilusorgu_hand_out` and `tilusorgu_compare` return, and `out` afterwards
 pub record Checked : Type 0 where
   pub number : ℕ
   pub out : List ℕ
@@ -141,3 +145,43 @@ kindSpan source rows count text total kind row =
 -- no number refuses; the part's offset and length
 unfoldable pub handed : Part → List ℕ → Checked
 handed p out = record { number = 0; out = putWords out (0 ∷ 0 ∷ p .offset ∷ p .size ∷ 0 ∷ 0 ∷ 0 ∷ 0 ∷ []) }
+
+-- ---- compare
+
+-- no number refuses: 1 where the trees are equal, and the two rows
+abbrev pub pairOf : ℕ → ℕ → ℕ → PairReport
+pairOf equal first second = record { number = 0; place = 0; equal = equal; first = first; second = second }
+
+-- a number and its place
+abbrev pub unpaired : ℕ → ℕ → PairReport
+unpaired number place = record { number = number; place = place; equal = 0; first = 0; second = 0 }
+
+unfoldable pub equalIn : Compared → ℕ
+equalIn compareds.Equal = 1
+equalIn (compareds.Differ first second) = 0
+equalIn (compareds.Pool verdict) = 0
+equalIn compareds.Root = 0
+
+unfoldable pub firstIn : Compared → ℕ
+firstIn compareds.Equal = 0
+firstIn (compareds.Differ first second) = first
+firstIn (compareds.Pool verdict) = 0
+firstIn compareds.Root = 0
+
+unfoldable pub secondIn : Compared → ℕ
+secondIn compareds.Equal = 0
+secondIn (compareds.Differ first second) = second
+secondIn (compareds.Pool verdict) = 0
+secondIn compareds.Root = 0
+
+-- what compare reports
+unfoldable pub ofCompared : Compared → PairReport
+ofCompared c =
+    record { number = comparisons.number c; place = comparisons.place c; equal = equalIn c; first = firstIn c; second = secondIn c }
+
+-- its eight words, in the order of `out`
+abbrev pub pairWords : PairReport → List ℕ
+pairWords r = r .number ∷ r .place ∷ r .equal ∷ r .first ∷ r .second ∷ 0 ∷ 0 ∷ 0 ∷ []
+
+unfoldable pub compared : Compared → List ℕ → Checked
+compared c out = record { number = comparisons.number c; out = putWords out (pairWords (ofCompared c)) }

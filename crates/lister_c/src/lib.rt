@@ -1,5 +1,6 @@
 // The calls as C functions, for `rt staticlib lister_c`. A slice is a pointer and a length in elements. Each call returns the refusal
 // number, 0 for none, and fills the first eight words of `out`; an `out` that is shorter than eight is left as it is.
+use comparison::Compared;
 use layout::Counts;
 use layout::Laid;
 use layout_pending::LaidPending;
@@ -9,14 +10,15 @@ use lister::Part;
 use pool_check::Verdict;
 ghost use mathlib.Core.List.{[], _∷_};
 ghost use mathlib.Core.Path.{_≡_};
+ghost use Rattle.comparison.specs.Call.{comparison};
 ghost use Rattle.layout.specs.Call.{outcome};
 ghost use Rattle.layout_pending.specs.Call.{outcomePending};
 ghost use Rattle.basics.specs.Lent.{was, left};
 ghost use Rattle.lister.specs.Source.{judged};
 ghost use Rattle.lister.specs.Prints.{printExpr, printDeclar};
 ghost use Rattle.lister.specs.Frames.{given};
-ghost use Rattle.lister_c.specs.Reports.{put, putWords, ofVerdict, ofLaid, ofLaidPending, ofAnswer, kindSpan};
-ghost use Rattle.lister_c.specs.Frames.{Checks, LaysOut, LaysOutPending, Prints, HandsOut};
+ghost use Rattle.lister_c.specs.Reports.{put, putWords, ofVerdict, ofLaid, ofLaidPending, ofAnswer, kindSpan, pairOf, unpaired, ofCompared};
+ghost use Rattle.lister_c.specs.Frames.{Checks, LaysOut, LaysOutPending, Prints, HandsOut, ComparesRows};
 
 // What a call reports, in the order of `out`; what does not apply is 0.
 pub struct Report {
@@ -325,4 +327,77 @@ pub extern "C" fn tilusorgu_hand_out(
     );
     put_words(out, 0, 0, p.offset as u64, p.size as u64, 0, 0, 0, 0);
     0
+}
+
+// What compare reports: a number and its place, 1 where the trees are equal, and the two rows.
+pub struct PairReport {
+    pub number: u32,
+    pub place: usize,
+    pub equal: u64,
+    pub first: usize,
+    pub second: usize,
+}
+
+fn pair(equal: u64, first: usize, second: usize) -> PairReport
+    ensures { λ v. ⌜ v ≡ pairOf equal first second ⌝ }
+{
+    PairReport {
+        number: 0,
+        place: 0,
+        equal,
+        first,
+        second,
+    }
+}
+
+fn no_pair(number: u32, place: usize) -> PairReport
+    ensures { λ v. ⌜ v ≡ unpaired number place ⌝ }
+{
+    PairReport {
+        number,
+        place,
+        equal: 0,
+        first: 0,
+        second: 0,
+    }
+}
+
+fn of_compared(v: Compared) -> PairReport
+    ensures { λ r. ⌜ r ≡ ofCompared v ⌝ }
+{
+    match v {
+        Compared::Equal => pair(1, 0, 0),
+        Compared::Differ { first, second } => pair(0, first, second),
+        Compared::Pool { verdict } => {
+            let report = of_verdict(verdict);
+            no_pair(report.number, report.place)
+        }
+        Compared::Root => no_pair(5, 0),
+    }
+}
+
+// Compares two expression rows.
+#[no_mangle]
+pub extern "C" fn tilusorgu_compare(
+    bytes: &[u8],
+    words: &[u32],
+    first: u32,
+    second: u32,
+    out: &mut [u64],
+) -> u32
+    ensures { λ v. ⌜ ComparesRows out v (comparison (was bytes) (was words) first second) ⌝ }
+{
+    let r = of_compared(comparison::compare(bytes, words, first as usize, second as usize));
+    put_words(
+        out,
+        r.number as u64,
+        r.place as u64,
+        r.equal,
+        r.first as u64,
+        r.second as u64,
+        0,
+        0,
+        0,
+    );
+    r.number
 }

@@ -2,7 +2,8 @@
 use Prim.Native.Nat.{ℕ, zero, suc, _+_, _≤_, _<_}
 use native.Mathlib.Omega.{arith}
 use mathlib.Core.Bool.{Bool, true, false, cond}
-use mathlib.Core.List.{List}
+use mathlib.Core.List.{List, [], _∷_}
+use mathlib.Core.Logic.{⊎-elim}
 use mathlib.Core.Path.{_≡_, refl, ap, _∙_}
 use lib.Dec.{leb, ltb, eqb}
 use lib.ListN.{length}
@@ -13,8 +14,11 @@ use Rattle.pool.specs.Tables.{Pool, pool, S, N, L, K, Q, E, D, total}
 use Rattle.pool.specs.Rules.{stringOk, nameOk, levelOk, listOk, listEntryOk, exprOk, declarOk}
 use Rattle.pool.specs.Sound.{Sound}
 use Rattle.byte_check.specs.Scan.{firstBad}
-use Rattle.pool_check.specs.Check.{inTable, refusal, wordsOk, limitsOk, rowsVerdict, verdict}
-use Rattle.basics.proofs.Booleans.{and-left, and-right}
+use Rattle.pool_check.specs.Check.{number, isAccepted, inTable, refusal, wordsOk, limitsOk, rowsVerdict, verdict}
+use Rattle.basics.proofs.Booleans.{and-left, and-right, false-true}
+use types.Run.{OneOf}
+use denote.Enum.Declared.{tagOf}
+use Rattle.pool_check.proofs.Verdict as the-verdicts
 
 -- the words are as many as the head says, and the counts and the byte area are within their limits
 pub record Limited (bs ws : List ℕ) : Type 0 where
@@ -117,3 +121,21 @@ accepted bs ws h = by (wordsOk ws) (limitsOk bs ws) refl refl h
     by true true u v k = (limited bs ws u v, rows-accepted (pool bs ws) k)
     by true false u v k = absurd (let z : _≡_ {A = ℕ} 0 1 = cc in omega arith)
     by false b u v k = absurd (let z : _≡_ {A = ℕ} 0 1 = cc in omega arith)
+
+pub accepted-is : (v : Verdict) → isAccepted v ≡ true → v ≡ Accepted
+unfolding isAccepted number
+accepted-is Accepted e = refl
+accepted-is Words e = false-true e
+accepted-is Limit e = false-true e
+accepted-is (Strings row) e = false-true e
+accepted-is (Rows row) e = false-true e
+
+-- what the code's last arm knows: the verdict is none of the cases before it
+pub refused-is : (v : Verdict) → OneOf (1 ∷ 2 ∷ 3 ∷ 4 ∷ []) (tagOf the-verdicts.the-type v) → false ≡ isAccepted v
+unfolding isAccepted number
+refused-is Accepted other = absurd
+    (⊎-elim (λ e. omega arith) (⊎-elim (λ e. omega arith) (⊎-elim (λ e. omega arith) (λ e. omega arith))) other)
+refused-is Words other = refl
+refused-is Limit other = refl
+refused-is (Strings row) other = refl
+refused-is (Rows row) other = refl

@@ -18,6 +18,10 @@ number Limit = 2
 number (Strings row) = 3
 number (Rows row) = 4
 
+-- "An accepted pool is one that check refuses under no number"
+unfoldable pub isAccepted : Verdict → Bool
+isAccepted v = eqb (number v) 0
+
 -- "for 3, 4 and 9 the first faulty row in its table (0 for counts) .. else 0"
 unfoldable pub place : Verdict → ℕ
 place Accepted = 0

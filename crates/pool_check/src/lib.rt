@@ -13,7 +13,7 @@ ghost use mathlib.Core.Path.{_≡_};
 ghost use Prim.Native.Nat.{_≤_};
 ghost use mathlib.Core.Bool.{_&&_};
 ghost use lib.ListN.{length};
-ghost use Rattle.pool_check.specs.Check.{rowsVerdict, verdict};
+ghost use Rattle.pool_check.specs.Check.{isAccepted, rowsVerdict, verdict};
 ghost use Rattle.pool.specs.Areas.{TablesOf, lent};
 ghost use Rattle.pool_check.specs.Stages.{Small, wordsVerdict, limits};
 
@@ -101,4 +101,14 @@ pub fn check(bytes: &[u8], words: &[u32]) -> Verdict
         return Verdict::Limit;
     }
     check_rows(bytes, words, words, t)
+}
+
+// Whether check found nothing.
+pub fn is_accepted(v: Verdict) -> bool
+    ensures { λ r. ⌜ r ≡ isAccepted v ⌝ }
+{
+    match v {
+        Verdict::Accepted => true,
+        _ => false,
+    }
 }

@@ -27,7 +27,7 @@ use Rattle.pretty_printer.specs.Exprs.{appHead, appArgs, appPar, chainPar, letP
 use Rattle.binders.specs.Variables.{varDoc}
 use Rattle.declarations.specs.Declars.{keyword, info, canLeave, taken, defRest, mainDef, axiomRest, mainAxiom, declarDoc}
 use Rattle.lister.specs.Answers.{number as Answers·number, place as Answers·place, stopAnswer, ofLaid}
-use Rattle.lister.specs.Source.{isAccepted}
+use Rattle.pool_check.specs.Check.{isAccepted}
 use Rattle.lister.specs.Prints.{untouched as Prints·untouched, documentCleared, filled, documentListed, afterWalk, printDoc, checked, printExpr, printDeclar}
 use Rattle.lister.specs.Handing.{hasText, textSpan, hasString, stringSpan, spanOf, areaOf, handOut}
 

@@ -33,7 +33,8 @@ use Rattle.third_property.proofs.PlaceLaws.{Like, expr-like, declar-lik
 use Rattle.lister.specs.declared.Answer.{Answer}
 use Rattle.lister.specs.declared.Answer.the-variants.{Done, Pool as Answer·Pool, Root, Size, Names, Document, RowArea, TextArea, Listing}
 use Rattle.lister.specs.Answers.{number, place, stopAnswer, ofLaid}
-use Rattle.lister.specs.Source.{Source, poolOf, judged, isAccepted}
+use Rattle.pool_check.specs.Check.{isAccepted}
+use Rattle.lister.specs.Source.{Source, poolOf, judged}
 use Rattle.lister.specs.Prints.{Areas, Outcome, untouched, documentCleared, filled, documentListed, afterWalk, printDoc, sizesOk, checked, printExpr, printDeclar}
 use Rattle.third_property.specs.ThirdProperty.{Print, expression, declaration, call, rootsIn, rootDoc, SameTree, Run, Returned, Rooted, Succeeded, listing, document, Premises}
 use Rattle.third_property.specs.ThirdProperty.{SameCounts, EndAlike, refused, succeeded, defined, walked, laid, reported, Stands, AsDefined, sizes, stops, short, lists}
@@ -42,7 +43,7 @@ use Rattle.third_property.specs.Claims.{rowsIn, Within}
 use Rattle.third_property.specs.Places.{piecesOf, failed, breakPlaces}
 use Rattle.layout.proofs.Answers.{written}
 use Rattle.basics.proofs.Booleans.{true-false}
-use Rattle.lister.proofs.Beginning.{accepted-is}
+use Rattle.pool_check.proofs.Acceptance.{accepted-is}
 use Rattle.third_property.proofs.WalkLaws.{Near, plain-like, walks-near}
 
 -- ---- what the definitions of the two prints share
