@@ -22,7 +22,8 @@
  *     out[6] longest row     in bytes, indentation included
  *     out[7] fit tests       groups that were tested for fitting into their row
  *
- * tilusorgu_hand_out puts an offset and a length into out[2] and out[3], and 0 into the others.
+ * tilusorgu_hand_out puts an offset and a length into out[2] and out[3], and 0 into the others. tilusorgu_compare puts 1 into out[2] if the
+ * trees are equal, else 0 and two rows into out[3] and out[4]; the others are 0.
  *
  * An `out` of more than eight has only its first eight written. With an `out` shorter than eight nothing is written into it,
  * and the call does and returns the same.
@@ -44,7 +45,7 @@ enum tilusorgu_number {
     TILUSORGU_LIMIT = 2,         /* a count or the byte area is over its limit; place 0 */
     TILUSORGU_STRING = 3,        /* a string pair breaks its rule; place: the first such string row */
     TILUSORGU_ROW = 4,           /* another row breaks its rule; place: the first such row, numbered in its table */
-    TILUSORGU_ROOT = 5,          /* no such root; place 0 */
+    TILUSORGU_ROOT = 5,          /* no such root, or a row to compare that is missing; place 0 */
     TILUSORGU_SIZES = 6,         /* indent over 64, or width over 65,535; place 0 */
     TILUSORGU_STACK = 7,         /* a chain or a let brings the names in force over 1,024; place: the row of the chain's start or of the let */
     TILUSORGU_DOCUMENT = 8,      /* a text byte or a row past the document's limits; place: document rows written so far */
@@ -121,6 +122,20 @@ uint32_t tilusorgu_print_expr(const uint8_t *bytes, size_t byte_count, const uin
 uint32_t tilusorgu_print_declar(const uint8_t *bytes, size_t byte_count, const uint32_t *words, size_t word_count, uint32_t root,
                                 uint32_t indent, uint32_t width, uint32_t *rows, size_t row_words, uint8_t *text, size_t text_bytes,
                                 uint8_t *listing, size_t listing_bytes, uint64_t *out, size_t out_count);
+
+/*
+ * Compares the trees of the expression rows `first` and `second` of the pool. Given: the pool, first, second. Lent: nothing.
+ *
+ * Refuses 1 to 4 as check does, then 5 if either row is missing. For a success out[2] is 1 if the trees are equal, and all else is 0. If they are not,
+ * out[2] is 0, and out[3] and out[4] are the first pair of rows that differs: one of the first tree, and one of the second in the same place.
+ *
+ * A pair differs if the kinds do, or a field that is no expression does, as trees: a variable's index; a sort's level; a constant's name, and its levels in
+ * order; the name and the style of a pi or a lambda; a let's name and nondep; a projection's type name and index; a literal's bytes. Depth and loose
+ * words are no fields. A pair comes before those of its children, and these come last field first: argument, function; body, type; body, value, type;
+ * structure. Which rows are shared does not change whether trees are equal, but which rows are named.
+ */
+uint32_t tilusorgu_compare(const uint8_t *bytes, size_t byte_count, const uint32_t *words, size_t word_count, uint32_t first, uint32_t second,
+                           uint64_t *out, size_t out_count);
 
 /*
  * Lays out a given document at a width: the first `row_count` rows of `rows` and the first `text_count` bytes of `text`, as a print

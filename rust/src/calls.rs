@@ -122,6 +122,25 @@ pub fn print_declar(bytes: &[u8], words: &[u32], root: u32, sizes: Sizes, lent: 
     print(bytes, words, Root::Declar(root), sizes, lent)
 }
 
+/// What [`compare`] says of two trees.
+#[derive(Clone, Copy, Debug, PartialEq, Eq)]
+pub enum Comparison {
+    Equal,
+    /// The first pair of rows that differs, of the first tree and of the second: in their kinds, or in a field that is no expression.
+    Differ(u32, u32),
+}
+
+/// Compares the trees of two expression rows: a row before its children, and these last field first. Refuses 1 to 5.
+pub fn compare(bytes: &[u8], words: &[u32], first: u32, second: u32) -> Result<Comparison, Refusal> {
+    let mut out = [0; 8];
+    // Sound: as above.
+    let number = with_stack(|| unsafe {
+        raw::tilusorgu_compare(bytes.as_ptr(), bytes.len(), words.as_ptr(), words.len(), first, second, out.as_mut_ptr(), 8)
+    });
+    answer(number, &out)?;
+    Ok(if out[2] == 1 { Comparison::Equal } else { Comparison::Differ(out[3] as u32, out[4] as u32) })
+}
+
 /// Lays out a given document, with a pending area of its own: 192 KiB at most, no thread and no deep machine stack. Refuses 9, 6 and 22.
 pub fn layout(given: Given<'_>, width: u32, listing: &mut [u8]) -> Result<Counts, Refusal> {
     // Whatever the count says, no more than 16,384 rows are ever laid out.

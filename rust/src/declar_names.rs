@@ -6,7 +6,7 @@ use std::borrow::Cow;
 use std::collections::HashMap;
 
 /// A component of a name row.
-#[derive(Clone, Copy)]
+#[derive(Clone, Copy, PartialEq, Eq)]
 enum Part<'a> {
     Text(&'a [u8]),
     Number(u64),
@@ -102,6 +102,11 @@ impl Pool {
         }
         parts.reverse();
         Some(parts)
+    }
+
+    /// Have two name rows the same components?
+    pub(crate) fn same_name(&self, first: u32, second: u32) -> bool {
+        first == second || self.parts(first) == self.parts(second)
     }
 
     fn declar_parts(&self, row: u32) -> Option<Vec<Part<'_>>> {

@@ -20,8 +20,21 @@
 //! let narrow = calls::layout(areas.document(&counts), 20, &mut listing).unwrap();
 //! assert_eq!(listing[..narrow.listing_length as usize], *b"axiom k (n : @Nat) :\n  @P n");
 //! ```
+//!
+//! Two expressions of a pool are compared as trees, from the back ([`calls::compare`]).
+//!
+//! ```
+//! use tilusorgu::{text, Comparison};
+//!
+//! let packed = text::pack("(define one (@P @a @b)) (define two (@P @c @d))", text::Sharing::Shared).unwrap();
+//! let row_of = |name: &str| packed.defined.iter().find(|(defined, _)| defined == name).unwrap().1;
+//! assert_eq!(packed.pool.compare(row_of("one"), row_of("one")), Ok(Comparison::Equal));
+//! // @b and @d
+//! assert_eq!(packed.pool.compare(row_of("one"), row_of("two")), Ok(Comparison::Differ(3, 7)));
+//! ```
 pub mod calls;
 mod declar_names;
+mod fields;
 mod listing;
 mod pool;
 pub mod pool_file;
@@ -32,7 +45,7 @@ mod rules;
 mod stack;
 pub mod text;
 
-pub use calls::{Counts, Given, Lent, Root, Sizes};
+pub use calls::{Comparison, Counts, Given, Lent, Root, Sizes};
 pub use declar_names::DeclarNames;
 pub use listing::{Areas, Listing};
 pub use pool::{Pool, Table};

@@ -1,5 +1,5 @@
 //! Listings with areas of their own on the heap, as long as they need to be.
-use crate::calls::{print, Counts, Given, Lent, Root, Sizes, MOST_ROW_WORDS, MOST_TEXT_BYTES, ROW_WORDS};
+use crate::calls::{print, Comparison, Counts, Given, Lent, Root, Sizes, MOST_ROW_WORDS, MOST_TEXT_BYTES, ROW_WORDS};
 use crate::pool::Pool;
 use crate::refusal::Refusal;
 
@@ -68,6 +68,11 @@ impl Pool {
     /// Is the pool accepted? Refuses 1 to 4.
     pub fn check(&self) -> Result<(), Refusal> {
         crate::calls::check(&self.bytes, &self.words)
+    }
+
+    /// Compares the trees of two expression rows. Refuses 1 to 5.
+    pub fn compare(&self, first: u32, second: u32) -> Result<Comparison, Refusal> {
+        crate::calls::compare(&self.bytes, &self.words, first, second)
     }
 
     /// Lists the expression in this row. Refuses 1 to 8.

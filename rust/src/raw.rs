@@ -36,6 +36,16 @@ extern "C" {
         out: *mut u64,
         out_count: usize,
     ) -> u32;
+    pub fn tilusorgu_compare(
+        bytes: *const u8,
+        byte_count: usize,
+        words: *const u32,
+        word_count: usize,
+        first: u32,
+        second: u32,
+        out: *mut u64,
+        out_count: usize,
+    ) -> u32;
     pub fn tilusorgu_layout(
         rows: *const u32,
         row_words: usize,

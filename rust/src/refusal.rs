@@ -16,7 +16,7 @@ impl Refusal {
             2 => "a table has more than 65,536 rows, or the byte area more than 16,777,216 bytes",
             3 => "a string row is a part of the byte area (offset, length), its offset not below the row's before, and is UTF-8",
             4 => "a row breaks a rule of its table: kind, references to rows that exist (within a table to lower ones), numbers within their limits, depth and loose words, unused words 0",
-            5 => "the pool has no such root",
+            5 => "the pool has no such row",
             6 => "the indent is at most 64 and the width at most 65,535",
             7 => "a chain of binders or a let brings the names in force over 1,024",
             8 => "a document has at most 16,384 rows and 65,536 text bytes",

@@ -1,85 +1,14 @@
 //! Pools whose trees are far larger than their rows: whether a variable occurs, and whether two types are equal, is answered in time, and rightly where few steps
 //! do not tell.
+#[path = "common/exprs.rs"]
+mod exprs;
+
+use exprs::{doubled, neighbours, Below, Rows};
 use std::sync::mpsc::channel;
 use std::time::Duration;
 use tilusorgu::{Pool, Sizes};
 
-/// Rows of the seven tables, appended by hand: names 0 is anonymous, then x, C, c; the list 0 is empty; every row has its depth and its loose word.
-#[derive(Default)]
-struct Rows {
-    levels: Vec<[u32; 3]>,
-    /// The lists after the empty one, and the list words.
-    lists: Vec<[u32; 2]>,
-    entries: Vec<u32>,
-    exprs: Vec<[u32; 8]>,
-}
-
-const X: u32 = 1;
-
 impl Rows {
-    fn row(&mut self, kind: u32, fields: [u32; 5], parts: &[u32], body: Option<u32>, least: u32) -> u32 {
-        let of = |r: u32, k: usize| self.exprs[r as usize][k];
-        let all = parts.iter().copied().chain(body);
-        let depth = all.map(|r| of(r, 6) + 1).max().unwrap_or(1);
-        let loose = parts.iter().map(|&r| of(r, 7)).chain(body.map(|r| of(r, 7).saturating_sub(1))).max().unwrap_or(0).max(least);
-        let [a, b, c, d, e] = fields;
-        self.exprs.push([kind, a, b, c, d, e, depth, loose]);
-        self.exprs.len() as u32 - 1
-    }
-
-    fn var(&mut self, index: u32) -> u32 {
-        self.row(0, [index, 0, 0, 0, 0], &[], None, index + 1)
-    }
-
-    fn constant(&mut self, name: u32) -> u32 {
-        self.row(2, [name, 0, 0, 0, 0], &[], None, 0)
-    }
-
-    fn sort(&mut self, level: u32) -> u32 {
-        self.row(1, [level, 0, 0, 0, 0], &[], None, 0)
-    }
-
-    fn app(&mut self, f: u32, a: u32) -> u32 {
-        self.row(3, [f, a, 0, 0, 0], &[f, a], None, 0)
-    }
-
-    /// A pi (4) or a lambda (5).
-    fn binder(&mut self, kind: u32, of: u32, body: u32) -> u32 {
-        self.row(kind, [X, 0, of, body, 0], &[of], Some(body), 0)
-    }
-
-    /// Layers of rows, each over two of the layer below; `below` says which two.
-    fn layers(&mut self, count: usize, wide: usize, leaf: u32, kind: u32, below: fn(usize, usize) -> (usize, usize)) -> Vec<u32> {
-        let mut rows: Vec<u32> = (0..wide as u32).map(|i| self.var(leaf + i)).collect();
-        for _ in 0..count {
-            rows = (0..wide)
-                .map(|i| {
-                    let (a, b) = below(i, wide);
-                    if kind == 3 {
-                        self.app(rows[a], rows[b])
-                    } else {
-                        self.binder(kind, rows[a], rows[b])
-                    }
-                })
-                .collect();
-        }
-        rows
-    }
-
-    /// `max` of levels in layers: parameters at the bottom.
-    fn level_layers(&mut self, count: usize, wide: usize, below: fn(usize, usize) -> (usize, usize)) -> u32 {
-        let mut rows: Vec<u32> = (0..wide as u32).map(|i| self.level([4, 1 + i % 3, 0])).collect();
-        for _ in 0..count {
-            rows = (0..wide).map(|i| self.level([2, rows[below(i, wide).0], rows[below(i, wide).1]])).collect();
-        }
-        rows[0]
-    }
-
-    fn level(&mut self, row: [u32; 3]) -> u32 {
-        self.levels.push(row);
-        self.levels.len() as u32 - 1
-    }
-
     /// `count` types, each the one before lifted by one: `fun (x x : T) => c` over the type below, a loose variable at the bottom. The second
     /// of two equal types is not shown, so that the tree doubles and the listing does not.
     fn doubling_types(&mut self, doublings: u32, count: u32) -> Vec<u32> {
@@ -109,28 +38,6 @@ impl Rows {
         self.binder(4, c, body);
         self.pool()
     }
-
-    fn pool(self) -> Pool {
-        let (strings, names) = ([[0, 1], [1, 1], [2, 1]], [[0, 0, 0, 0], [1, 0, 0, 0], [1, 0, 1, 0], [1, 0, 2, 0]]);
-        let counts = [self.levels.len(), 1 + self.lists.len(), self.entries.len(), self.exprs.len()].map(|n| n as u32);
-        let mut words = vec![3, 4, counts[0], counts[1], counts[2], counts[3], 0];
-        words.extend(strings.iter().flatten());
-        words.extend(names.iter().flatten());
-        words.extend(self.levels.iter().flatten());
-        words.extend([0, 0]);
-        words.extend(self.lists.iter().flatten());
-        words.extend(self.entries);
-        words.extend(self.exprs.iter().flatten());
-        Pool { bytes: b"xCc".to_vec(), words }
-    }
-}
-
-fn neighbours(i: usize, wide: usize) -> (usize, usize) {
-    (i, (i + 1).min(wide - 1))
-}
-
-fn doubled(i: usize, wide: usize) -> (usize, usize) {
-    (2 * i % wide, (2 * i + 1) % wide)
 }
 
 /// The listing of the last row, or the number of the refusal; within ten seconds.
@@ -145,8 +52,7 @@ fn printed(pool: Pool) -> Result<String, u32> {
 
 #[test]
 fn lambdas_in_layers_under_a_pi() {
-    for (wide, below) in [(2, neighbours as fn(usize, usize) -> _), (16, neighbours), (250, neighbours), (2, doubled), (16, doubled), (250, doubled)]
-    {
+    for (wide, below) in [(2, neighbours as Below), (16, neighbours), (250, neighbours), (2, doubled), (16, doubled), (250, doubled)] {
         let mut rows = Rows::default();
         let top = rows.layers(250, wide, 300, 5, below)[0];
         assert_eq!(printed(rows.under_a_pi(top)), Err(7), "{wide}");
@@ -155,8 +61,7 @@ fn lambdas_in_layers_under_a_pi() {
 
 #[test]
 fn lambdas_in_layers_as_two_types() {
-    for (wide, below) in [(2, neighbours as fn(usize, usize) -> _), (16, neighbours), (125, neighbours), (2, doubled), (16, doubled), (125, doubled)]
-    {
+    for (wide, below) in [(2, neighbours as Below), (16, neighbours), (125, neighbours), (2, doubled), (16, doubled), (125, doubled)] {
         let mut rows = Rows::default();
         let first = rows.layers(250, wide, 300, 5, below)[0];
         let second = rows.layers(250, wide, 301, 5, below)[0];

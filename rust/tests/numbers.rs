@@ -247,7 +247,7 @@ fn layout_6_and_22() {
 
 #[test]
 fn refusals_in_words() {
-    assert_eq!(refusal(5, 0).to_string(), "refused 5: the pool has no such root");
+    assert_eq!(refusal(5, 0).to_string(), "refused 5: the pool has no such row");
     assert_eq!(refusal(7, 12).to_string(), "refused 7 (expression row 12): a chain of binders or a let brings the names in force over 1,024");
     for number in [1, 2, 3, 4, 5, 6, 7, 8, 9, 20, 21, 22, 30] {
         assert_ne!(refusal(number, 0).rule(), refusal(0, 0).rule());

@@ -56,7 +56,7 @@ fn titled(pool: &Pool, root: Root) -> String {
 }
 
 /// A refusal of one root, with what the pool has instead where there is no such root.
-fn refused(pool: &Pool, root: Root, refusal: Refusal) -> String {
+pub fn refused(pool: &Pool, root: Root, refusal: Refusal) -> String {
     let table = if matches!(root, Root::Expr(_)) { Table::Exprs } else { Table::Declars };
     let there = match (refusal.number, pool.count(table)) {
         (5, 0) => format!(" (it has no {}s)", table.row_name()),

@@ -1,5 +1,6 @@
 //! The statement lister as a command: `tilusorgu help`.
 mod closed;
+mod compare;
 mod console;
 mod display;
 mod files;
@@ -48,6 +49,7 @@ fn run(arguments: Vec<std::ffi::OsString>) -> ExitCode {
         Command::Check(file) => list::check(&file),
         Command::List(list) => list::list(&list),
         Command::Names(file) => names::names(&file),
+        Command::Compare(compare) => compare::compare(&compare),
         Command::Pack(pack) => pack::pack(&pack),
     });
     match outcome {

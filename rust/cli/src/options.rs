@@ -9,6 +9,7 @@ use tilusorgu::Sizes;
 pub const HELP: &str = "\
 tilusorgu check FILE              is the pool accepted?
 tilusorgu names FILE              row, kind and name of every declaration, a line each
+tilusorgu compare FILE ROW ROW    are these two expressions the same tree? If not, the first two rows in which they differ, looked at from the back
 tilusorgu list FILE [OPTION]..    lists declarations and expressions of a pool
     --declar NAME|ROW             this declaration, by its row, or by its name as a listing shows it or as pack reads it
                                   (all of that name); may be repeated
@@ -28,7 +29,7 @@ tilusorgu help, tilusorgu version
 
 --width 80 and --width=80 are the same. FILE is a pool file, or - for standard input; after -- a FILE may begin with -. Listings are separated by an empty line.
 On a terminal control characters and bidirectional marks of names and literals are shown as escapes; a pipe or a file gets the bytes.
-Status: 0 done; 1 something was refused; 2 wrong command line, wrong file, or no such name.
+Status: 0 done, whether compare says equal or differ; 1 something was refused; 2 wrong command line, wrong file, or no such name.
 docs/POOL-FILE.md has the pool file and the text form.
 ";
 
@@ -37,6 +38,7 @@ pub enum Command {
     Version,
     Check(PathBuf),
     Names(PathBuf),
+    Compare(Compare),
     List(List),
     Pack(Pack),
 }
@@ -58,6 +60,11 @@ pub struct List {
     pub progress: Wanted,
 }
 
+pub struct Compare {
+    pub file: PathBuf,
+    pub rows: [u32; 2],
+}
+
 pub struct Pack {
     pub file: PathBuf,
     pub out: Option<PathBuf>,
@@ -72,6 +79,9 @@ fn wrong<T>(what: impl Into<String>) -> Result<T, Failure> {
 struct Words {
     rest: std::vec::IntoIter<OsString>,
     file: Option<PathBuf>,
+    /// What stands behind the file, and how many words may stand there: two for `compare`, else none.
+    rows: Vec<OsString>,
+    most_rows: usize,
     /// After -- no word is an option.
     options_end: bool,
     /// What stood behind the = of the last option.
@@ -79,7 +89,7 @@ struct Words {
 }
 
 impl Words {
-    /// The next option. What is no option is the file.
+    /// The next option. What is no option is the file, or a row behind it.
     fn option(&mut self) -> Result<Option<String>, Failure> {
         if let Some(value) = self.joined.take() {
             return wrong(format!("the option before ={} takes no value", value.to_string_lossy()));
@@ -93,6 +103,8 @@ impl Words {
                     return Ok(Some(name.to_string()));
                 }
                 _ if self.file.is_none() => self.file = Some(PathBuf::from(word)),
+                _ if self.rows.len() < self.most_rows => self.rows.push(word),
+                _ if self.most_rows > 0 => return wrong(format!("two rows are expected, and {} is one more", word.to_string_lossy())),
                 _ => return wrong(format!("one file is expected, and {} is a second one", word.to_string_lossy())),
             }
         }
@@ -126,14 +138,15 @@ fn number(option: &str, text: &str) -> Result<u32, Failure> {
 pub fn parse(arguments: Vec<OsString>) -> Result<Command, Failure> {
     let mut rest = arguments.into_iter();
     let Some(command) = rest.next() else {
-        return wrong("a command is expected: check, names, list or pack");
+        return wrong("a command is expected: check, names, compare, list or pack");
     };
-    let words = Words { rest, file: None, options_end: false, joined: None };
+    let words = Words { rest, file: None, rows: Vec::new(), most_rows: 0, options_end: false, joined: None };
     match command.to_str() {
         Some("help" | "--help" | "-h") => Ok(Command::Help),
         Some("version" | "--version" | "-V") => Ok(Command::Version),
         Some("check") => file_alone(words, "check", Command::Check),
         Some("names") => file_alone(words, "names", Command::Names),
+        Some("compare") => compare(Words { most_rows: 2, ..words }),
         Some("list") => list(words),
         Some("pack") => pack(words),
         _ => wrong(format!("there is no command {}", command.to_string_lossy())),
@@ -153,6 +166,19 @@ fn unknown(option: &str, command: &str) -> Result<Command, Failure> {
         "--help" | "-h" => Ok(Command::Help),
         _ => wrong(format!("{command} has no option {option}")),
     }
+}
+
+fn compare(mut words: Words) -> Result<Command, Failure> {
+    if let Some(option) = words.option()? {
+        return unknown(&option, "compare");
+    }
+    let rows = std::mem::take(&mut words.rows);
+    let file = words.file()?;
+    let [first, second] = &rows[..] else {
+        return wrong("two rows are expected behind the file");
+    };
+    let row = |word: &OsString| number("row", &word.to_string_lossy());
+    Ok(Command::Compare(Compare { file, rows: [row(first)?, row(second)?] }))
 }
 
 fn list(mut words: Words) -> Result<Command, Failure> {

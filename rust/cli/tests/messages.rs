@@ -156,7 +156,7 @@ fn building_is_not_silent() {
 #[test]
 fn help_names_all_commands() {
     let (help, ..) = run(&["help"]);
-    for command in ["check", "names", "list", "pack", "help", "version"] {
+    for command in ["check", "names", "compare", "list", "pack", "help", "version"] {
         assert!(help.contains(&format!("tilusorgu {command}")), "{command}");
         assert!(!run(&[command]).1.contains("no command"), "{command}");
     }

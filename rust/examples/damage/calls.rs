@@ -35,6 +35,11 @@ pub fn print(pool: &Pool, root: Root, (indent, width): (u32, u32), areas: &mut A
     }
 }
 
+pub fn compare(pool: &Pool, (first, second): (u32, u32), out: &mut Guarded<u64>) -> u32 {
+    let (bytes, words, out) = (&pool.bytes, &pool.words, out.area());
+    unsafe { raw::tilusorgu_compare(bytes.as_ptr(), bytes.len(), words.as_ptr(), words.len(), first, second, out.as_mut_ptr(), out.len()) }
+}
+
 pub fn layout(given: Given<'_>, width: u32, listing: &mut Guarded<u8>, out: &mut Guarded<u64>) -> u32 {
     let (listing, out) = (listing.area(), out.area());
     unsafe {

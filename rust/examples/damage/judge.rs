@@ -1,6 +1,7 @@
 //! What documents 01 and 02 say of an answer, whatever the input was: numbers, places, counts, and what the areas hold.
+use crate::comparison;
 use crate::guarded::Guarded;
-use tilusorgu::{Pool, Root, Table};
+use tilusorgu::{Comparison, Pool, Root, Table};
 
 /// Guards and what fills an area before a call.
 const GUARD: u8 = 0x5c;
@@ -92,6 +93,24 @@ pub fn print_number(checked: (u32, u64), answer: (u32, u64), pool: &Pool, root: 
     need((answer.0 == 6) == (!no_root && no_sizes), "6 is not exactly for indent and width")?;
     need(!(1..=4).contains(&answer.0), "an accepted pool is refused 1 to 4")?;
     need(answer.0 != 7 || answer.1 < u64::from(pool.count(Table::Exprs)), "the place of 7 is no expression row")
+}
+
+/// What comparing two rows answers, given what check said of the pool: `out` if it is not shorter than eight.
+pub fn compared(checked: (u32, u64), number: u32, answer: &Guarded<u64>, pool: &Pool, (first, second): (u32, u32)) -> Result<(), String> {
+    out(number, answer)?;
+    let expected = if checked.0 != 0 {
+        [u64::from(checked.0), checked.1, 0, 0, 0]
+    } else if first.max(second) >= pool.count(Table::Exprs) {
+        [5, 0, 0, 0, 0]
+    } else {
+        match comparison::compared(pool, first, second) {
+            Comparison::Equal => [0, 0, 1, 0, 0],
+            Comparison::Differ(a, b) => [0, 0, 0, a.into(), b.into()],
+        }
+    };
+    need(u64::from(number) == expected[0], "compare: another number than the pool and the rows have")?;
+    let seen = answer.seen();
+    need(seen.len() < 8 || seen[..5] == expected && seen[5..8] == [0; 3], "compare: another place, or another pair than pair by pair")
 }
 
 /// The place of 20 and 21, and that these come from short areas alone.

@@ -6,6 +6,8 @@
 //! The inputs are tried in a process of their own, so that a crash or a call that does not end is seen, and at which input it was.
 //! The last line is 'N passed, M failed'.
 mod calls;
+#[path = "../../tests/common/comparison.rs"]
+mod comparison;
 mod corpus;
 #[path = "../../tests/common/guarded.rs"]
 mod guarded;

@@ -18,7 +18,8 @@ impl Tally {
     }
 
     pub fn show(&self) {
-        for call in ["check", "print expression", "print declaration", "layout", "layout, pending", "hand out a string", "hand out a text"] {
+        for call in ["check", "compare", "print expression", "print declaration", "layout", "layout, pending", "hand out a string", "hand out a text"]
+        {
             let numbers: Vec<String> = self.0.iter().filter(|((c, _), _)| *c == call).map(|((_, n), k)| format!("{n}: {k}")).collect();
             println!("{call}: {}", numbers.join(", "));
         }
@@ -47,6 +48,7 @@ fn pool_calls(stock: &Stock, r: &mut Random, tally: &mut Tally) -> Result<(), St
     mutate::pool(r, &mut pool);
     let before = pool.clone();
     let checked = check(&pool, r, tally)?;
+    compare(&pool, checked, r, tally)?;
     for table in [Table::Exprs, Table::Declars] {
         let ask = ask(entry, table, r);
         let root = match ask.root {
@@ -61,6 +63,21 @@ fn pool_calls(stock: &Stock, r: &mut Random, tally: &mut Tally) -> Result<(), St
     }
     hand_out_string(&pool, checked.0 == 0, r, tally)?;
     need(pool == before, "a call changed the pool")
+}
+
+/// Two expression rows of the pool, there or not, mostly near each other: rows that are nearly equal stand so.
+fn compare(pool: &Pool, checked: (u32, u64), r: &mut Random, tally: &mut Tally) -> Result<(), String> {
+    let count = pool.count(Table::Exprs).min(65_536) as usize;
+    for _ in 0..2 {
+        let first = r.below(count + 1);
+        let second = if r.one_in(3) { r.below(count) } else { (first + r.below(9)).saturating_sub(4) };
+        let rows = (mutate::number(r, first as u32), mutate::number(r, second as u32));
+        let mut out = new_out(r);
+        let number = calls::compare(pool, rows, &mut out);
+        tally.count("compare", number);
+        judge::compared(checked, number, &out, pool, rows).map_err(|what| format!("expression rows {rows:?}: {what}"))?;
+    }
+    Ok(())
 }
 
 /// A string row of the pool, there or not.

@@ -8,6 +8,8 @@
 #[allow(dead_code)] // shared with the program of damaged inputs
 #[path = "../damage/calls.rs"]
 mod calls;
+#[path = "../../tests/common/comparison.rs"]
+mod comparison;
 #[path = "../../tests/common/guarded.rs"]
 mod guarded;
 #[allow(dead_code)]
@@ -177,6 +179,13 @@ fn exactly(q: &Request, [rows, text, listing]: [u32; 3]) -> Result<Vec<u8>, Stri
             let mut out = new_out();
             let number = calls::check(&q.pool, &mut out);
             judge::out(number, &out)?;
+            (out, Areas::new([0, 0, 0]))
+        }
+        Call::Compare => {
+            let (rows, mut out) = ((q.row, q.second), new_out());
+            let number = calls::compare(&q.pool, rows, &mut out);
+            let mut checked = new_out();
+            judge::compared((calls::check(&q.pool, &mut checked), checked.seen()[1]), number, &out, &q.pool, rows)?;
             (out, Areas::new([0, 0, 0]))
         }
         Call::HandOutText => {

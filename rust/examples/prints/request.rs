@@ -14,10 +14,13 @@ pub enum Call {
     HandOutString,
     /// A layout with a pending area.
     LayoutPending,
+    /// The root is the first of two expression rows.
+    Compare,
 }
 
 /// By their modes.
-const CALLS: [Call; 7] = [Call::PrintExpr, Call::PrintDeclar, Call::Layout, Call::Check, Call::HandOutText, Call::HandOutString, Call::LayoutPending];
+const CALLS: [Call; 8] =
+    [Call::PrintExpr, Call::PrintDeclar, Call::Layout, Call::Check, Call::HandOutText, Call::HandOutString, Call::LayoutPending, Call::Compare];
 
 pub struct Request {
     pub call: Call,
@@ -30,6 +33,8 @@ pub struct Request {
     pub lengths: Option<[u32; 3]>,
     /// The length of the pending area in words, of a layout with one; else 0.
     pub pending: u32,
+    /// The second of two rows that are compared; else 0.
+    pub second: u32,
 }
 
 impl Request {
@@ -70,6 +75,7 @@ pub fn next(data: &mut &[u8]) -> Option<Request> {
     let pool = Pool { bytes: area, words: words(data, count) };
     let lengths = alone.then(|| words(data, 3).try_into().expect("three lengths"));
     let call = CALLS[head[0] as usize];
-    let pending = if call == Call::LayoutPending { words(data, 1)[0] } else { 0 };
-    Some(Request { call, row: head[1], indent: head[2], width: head[3], pool, lengths, pending })
+    let mut fourth = |of: Call| if call == of { words(data, 1)[0] } else { 0 };
+    let (pending, second) = (fourth(Call::LayoutPending), fourth(Call::Compare));
+    Some(Request { call, row: head[1], indent: head[2], width: head[3], pool, lengths, pending, second })
 }
