@@ -8,6 +8,7 @@ import sys
 import time
 from collections import Counter, namedtuple
 
+import comparisons
 import directed
 import model
 import product
@@ -254,6 +255,48 @@ def random_layouts(subjects, seed, count, tally):
         judge_product_pending(subjects.product, batch, tally)
 
 
+def judge_comparisons(subjects, pairs, tally, figure):
+    """Two rows whose place is known, the one way round and the other, by the model and by the product."""
+    asked = []
+    for p in pairs:
+        pool = model.Pool(p.area, p.words)
+        for swapped in (False, True):
+            answer, expected = model.compare(pool, *(p.second, p.first) if swapped else (p.first, p.second))[:3], comparisons.expected(p, swapped)
+            tally.judge(answer == expected, "compared:", p.title, answer, "expected", expected)
+            asked.append((p, comparisons.call(p, swapped), expected))
+    tally.figures[figure] += len(asked)
+    if subjects.product:
+        for (p, _, expected), r in zip(asked, product.call(subjects.product, [c for _, c, _ in asked])):
+            tally.judge(r[:3] == expected and r.fault is None, "product, compared:", p.title, r.fault or r[:3], "expected", expected)
+
+
+def random_comparisons(subjects, seed, count, tally):
+    """Trees against themselves changed at known places."""
+    pairs = list(comparisons.by_changes(seed, count))
+    for i in range(0, len(pairs), 300):
+        judge_comparisons(subjects, pairs[i:i + 300], tally, "random comparisons")
+
+
+def compared_rows(pool, most, tally, *what):
+    """The model's comparisons of rows of a pool, which have to name the pair that the trees' numbers tell; 5 past the last row. Gives rows and answers."""
+    answers = []
+    for a, b in comparisons.by_rows(pool, most, len(pool.words)):
+        found, answer = comparisons.by_trees(pool.exprs[a], pool.exprs[b]), model.compare(pool, a, b)[:3]
+        tally.judge(answer == (0, 0, (0,) + found if found else (1, 0, 0)), *what, "rows", a, b, "compared:", answer, "by their trees", found)
+        answers.append((a, b, answer))
+    for a, b in ((0, len(pool.exprs)), (len(pool.exprs), 0)):
+        tally.judge(model.compare(pool, a, b)[:3] == (5, 0, None), *what, "rows", a, b, "not refused 5")
+    return answers
+
+
+def replay_comparisons(program, compared, tally):
+    """Rows of recorded pools compared by the product as by the model."""
+    calls = [product.Call(product.COMPARE, r.area, r.words, a, 0, 0, (0, 0, 0), second=b) for r, answers in compared for a, b, _ in answers]
+    known = [answer for _, answers in compared for _, _, answer in answers]
+    for c, expected, r in zip(calls, known, product.call(program, calls)):
+        tally.judge(r[:3] == expected and r.fault is None, "corpus, product: rows", c.root, c.second, "compared:", r.fault or r[:3], "model", expected)
+
+
 def replay_model(pool_record, pool, tally):
     """Whole calls, in areas just long enough: number, counts, listing, and the document where it is recorded."""
     for p in pool_record.prints:
@@ -288,18 +331,21 @@ def replay_product(program, pool_records, tally):
 
 
 def replay(subjects, tally):
-    records = record.read()
+    records, compared = record.read(), []
     for r in records:
         pool = model.Pool(r.area, r.words)
         tally.judge(pool.fault == (0, 0), "corpus pool", pool.fault)
         replay_model(r, pool, tally)
+        compared.append((r, compared_rows(pool, 32, tally, "corpus, model:")))
     for i in range(0, len(records), 100):
         if subjects.published:
             replay_rust(subjects.published, records[i:i + 100], tally)
         if subjects.product:
             replay_product(subjects.product, records[i:i + 100], tally)
+            replay_comparisons(subjects.product, [(r, answers[:4]) for r, answers in compared[i:i + 100]], tally)
     tally.figures["corpus pools"] = len(records)
     tally.figures["corpus prints"] = sum(len(r.prints) for r in records)
+    tally.figures["corpus comparisons"] = sum(len(answers) for _, answers in compared)
 
 
 def fixed_inputs(subjects, tally):
@@ -309,6 +355,7 @@ def fixed_inputs(subjects, tally):
     for good, line in refusals.judged(subjects.product):
         tally.figures["refusals"] += 1
         tally.judge(good, line)
+    judge_comparisons(subjects, comparisons.by_hand(), tally, "comparisons by hand")
 
 
 def options():
@@ -341,6 +388,7 @@ def compare(o, subjects, tally):
         directed_prints(subjects, tally)
         random_prints(subjects, o.seed, o.prints, tally)
         random_layouts(subjects, o.seed, min(1500, o.prints), tally)
+        random_comparisons(subjects, o.seed, min(1500, o.prints), tally)
     if o.letters:
         letters(subjects, tally)
     if not o.no_corpus:

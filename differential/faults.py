@@ -10,6 +10,8 @@ import tempfile
 
 HERE = os.path.dirname(os.path.abspath(__file__))
 EMIT_NEST = '        self.emit(b" " * amount)\n'
+RETURN_PAIR = "        return a.row, b.row\n"
+RETURN_CHILDREN = "        return next((d for x, y in zip(children(a), children(b)) if (d := first_difference(x, y, equal))), (a.row, b.row))\n"
 # title, text of model.py, what stands there instead
 FAULTS = (
     ("fit test with <", "self.after[row + 1] <= self.row_end", "self.after[row + 1] < self.row_end"),
@@ -38,6 +40,18 @@ FAULTS = (
     ("pending: 30 a word too early", "if len(pending) < 3 * len(rows):", "if len(pending) <= 3 * len(rows):"),
     ("pending: 30 a word too late", "if len(pending) < 3 * len(rows):", "if len(pending) + 1 < 3 * len(rows):"),
     ("pending: what follows a part not carried", "right_first if right_has else right_first + distance", "right_first"),
+    ("compared: front first", "in zip(reversed(children(a)), reversed(children(b))):", "in zip(children(a), children(b)):"),
+    ("compared: names no fields", 'if letter != "e"]', 'if letter not in "ea"]'),
+    ("compared: levels no fields", 'if letter != "e"]', 'if letter not in "el"]'),
+    ("compared: lists of levels no fields", 'if letter != "e"]', 'if letter not in "ek"]'),
+    ("compared: strings no fields", 'if letter != "e"]', 'if letter not in "et"]'),
+    ("compared: indices, styles and nondep no fields", 'if letter != "e"]', 'if letter not in "en"]'),
+    ("compared: kinds no matter", "if a.kind != b.kind or own_fields(a)", "if own_fields(a)"),
+    ("compared: children before their row", RETURN_PAIR, RETURN_CHILDREN),
+    ("compared: pairs kept by their first row", "(a.row, b.row) in equal", "a.row in {a for a, _ in equal}"),
+    ("compared: equal trees in other rows differ", "or own_fields(a) != own_fields(b):", "or own_fields(a) != own_fields(b) or a.row != b.row:"),
+    ("compared: the pair the other way round", RETURN_PAIR, "        return b.row, a.row\n"),
+    ("compared: 5 for the last row", "max(first, second) >= pool", "max(first, second) + 1 >= pool"),
     ("the anonymous marks as texts of their own", "return part(name_text(name))", 'return part(name_text(name)) if name else join("«", "", "»")'),
 )
 

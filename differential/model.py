@@ -3,6 +3,7 @@
     pool = Pool(area, words)                pool.fault: (number, place) of check, (0, 0) when accepted
     print_expression(pool, root, indent, width, areas)   print_declaration(...)      -> Answer
     layout_document(rows, row_count, text, text_count, width, listing)               -> Answer
+    compare(pool, first, second)            of two expression rows                     -> Answer
     document(pool, mode, root, indent)      the events of a print's document, lazily, in document order
     rows_of(events) -> (rows, text)         layout(rows, text, width) -> Laid          tree_of(events): the document as nested tuples
     pool.exprs[row], pool.declars[row]      trees of an accepted pool                  expr_term(e): the tree as pools.py takes it
@@ -827,6 +828,34 @@ def layout_pending(rows, text, width, area):
 
 
 # ---------------------------------------------------------------------------------------------------------------------------------
+# Two rows compared (02, P3)
+
+
+def own_fields(e):
+    '''"fields (as trees) that are no expressions"'''
+    return [key_of(f) for letter, f in zip(EXPR_FIELDS[e.kind], e.fields) if letter != "e"]
+
+
+def children(e):
+    return [f for letter, f in zip(EXPR_FIELDS[e.kind], e.fields) if letter == "e"]
+
+
+def first_difference(a, b, equal):
+    '''"the first pair of rows whose kinds, or fields (as trees) that are no expressions, differ; a row comes before its children, these
+    last field first". None where there is no such pair; `equal` keeps the pairs that were found equal.'''
+    if (a.row, b.row) in equal:
+        return None
+    if a.kind != b.kind or own_fields(a) != own_fields(b):
+        return a.row, b.row
+    for one, other in zip(reversed(children(a)), reversed(children(b))):
+        found = first_difference(one, other, equal)
+        if found:
+            return found
+    equal.add((a.row, b.row))
+    return None
+
+
+# ---------------------------------------------------------------------------------------------------------------------------------
 # Calls
 
 Areas = namedtuple("Areas", "rows text listing")
@@ -887,6 +916,18 @@ def print_declaration(pool, root, indent, width, lent):
 def check(area, words):
     """(number, place) of check."""
     return Pool(area, words).fault
+
+
+def compare(pool, first, second):
+    '''"of two expression rows of a pool (5 if either is missing) it says that their trees are equal, or gives the first pair": the counts
+    are (1, 0, 0), or 0 and the two rows.'''
+    number, place = pool.fault
+    if number == 0 and max(first, second) >= pool.words[EXPRS]:
+        number = 5
+    if number:
+        return Answer(number, place, None, None)
+    found = first_difference(pool.exprs[first], pool.exprs[second], set())
+    return Answer(0, 0, (0,) + found if found else (1, 0, 0), None)
 
 
 def document_fault(words, row_count, text, text_count):

@@ -15,12 +15,13 @@ FILL = 0xA5
 CHECK = 3
 TEXT, STRING = 4, 5  # to hand out
 PENDING = 6  # layout with a pending area
+COMPARE = 7  # two expression rows
 # `fault` says in words why there is no answer, or what the program found wrong with it; else it is None.
 Reply = namedtuple("Reply", "number place listing rows text counts fault")
 # One call: of a print the lengths of its areas (rows in words); of a layout the counts of rows and text bytes, and the listing's length; of a text to hand out these
-# counts, `root` being the row. Of a layout with a pending area also that area's length, in words.
-Call = namedtuple("Call", "mode area words root indent width lengths pending", defaults=(0,))
-# `counts` of what is handed out are its bytes.
+# counts, `root` being the row. Of a layout with a pending area also that area's length, in words; of two rows, `root` and `second`.
+Call = namedtuple("Call", "mode area words root indent width lengths pending second", defaults=(0, 0))
+# `counts` of what is handed out are its bytes; of two rows 1 if they are equal, else 0, and the pair.
 Called = namedtuple("Called", "number place counts areas fault")
 
 
@@ -106,7 +107,8 @@ def ask(program, requests, timeout=300):
 
 def encode_call(c):
     q = rust.encode(rust.Request(c.mode, c.root, c.indent, c.width, c.area, c.words))
-    return b"PLC1" + q[4:] + struct.pack("<3I", *c.lengths) + (struct.pack("<I", c.pending) if c.mode == PENDING else b"")
+    fourth = {PENDING: c.pending, COMPARE: c.second}
+    return b"PLC1" + q[4:] + struct.pack("<3I", *c.lengths) + (struct.pack("<I", fourth[c.mode]) if c.mode in fourth else b"")
 
 
 def area_lengths(c):
@@ -128,6 +130,8 @@ def decode_call(data, at, c):
         offset, length = out[2:4]
         inside = offset + length <= len(c.area) and not any(out[4:])
         return Called(out[0], out[1], bytes(c.area[offset:offset + length]), areas, None if inside else "no part of its area: %r" % (out,)), at
+    if c.mode == COMPARE:
+        return Called(out[0], out[1], out[2:5] if out[0] == 0 else None, areas, "more than a pair: %r" % (out,) if any(out[5:]) else None), at
     return Called(out[0], out[1], out[2:] if out[0] == 0 and c.mode != CHECK else None, areas, None), at + text + listing
 
 
@@ -146,6 +150,8 @@ def by_model(c):
         of_text = lambda: model.hand_out_text(c.words, c.lengths[0], c.area, c.lengths[1], c.root)
         handed = of_text() if c.mode == TEXT else model.hand_out_string(model.Pool(c.area, c.words), c.root)
         return Called(0, 0, bytes(handed), model.Areas([], b"", b""), None)
+    if c.mode == COMPARE:
+        return Called(*model.compare(model.Pool(c.area, c.words), c.root, c.second)[:3], model.Areas([], b"", b""), None)
     rows, text, listing = area_lengths(c)
     lent = model.Areas([FILL * 0x01010101] * rows, bytearray([FILL]) * text, bytearray([FILL]) * listing)
     if c.mode == 2:

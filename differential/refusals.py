@@ -253,17 +253,48 @@ def pending_areas():
     yield "16,384 rows in each other, pending area a word short", given_pending(49151, rows=deep, text_count=1), (30, 0)
 
 
+def compared(first, second, pool=None):
+    """Two rows of the base pool, or of another."""
+    return product.Call(product.COMPARE, *(pool or base().pool()), first, 0, 0, (0, 0, 0), second=second)
+
+
+def comparisons():
+    """Rows that are missing; 5 after 1 to 4."""
+    rows = len(base().tables[EXPRS])
+    yield "two rows that are there", compared(0, rows - 1), (0, 0)
+    yield "a row with itself", compared(rows - 1, rows - 1), (0, 0)
+    for missing in (rows, rows + 1, 65535, 65536, 1 << 31, (1 << 32) - 1):
+        yield "the first row missing, %d" % missing, compared(missing, 0), (5, 0)
+        yield "the second row missing, %d" % missing, compared(0, missing), (5, 0)
+        yield "both rows missing, %d" % missing, compared(missing, missing), (5, 0)
+    yield "rows of a pool without expressions", compared(0, 0, (b"", [0] * 7)), (5, 0)
+    area, words = base().pool()
+    yield "a missing row of a pool with a word too many", compared(rows, 0, (area, words + [0])), (1, 0)
+    b = base()
+    at = b.append(EXPRS, (10, 0, 0, 0, 0, 0, 1, 0))
+    yield "a faulty row above both", compared(0, 1, b.pool()), (4, at)
+    yield "a faulty row above both, and one missing", compared(0, at + 1, b.pool()), (4, at)
+    b = base()
+    b.tables[STRINGS][1] = (99, 1)
+    yield "a faulty string, and both rows missing", compared(99, 99, b.pool()), (3, 1)
+    full = [0, 0, 0, 0, 0, 65536, 0] + [0, 0, 0, 0, 0, 0, 1, 1] * 65536
+    yield "the last of 65,536 rows", compared(65535, 65535, (b"", full)), (0, 0)
+    yield "one past the last of 65,536 rows", compared(65535, 65536, (b"", full)), (5, 0)
+
+
 def cases():
-    for part in (counts_and_strings, names_levels_lists, expressions_declarations, prints, names, documents, pending_areas):
+    for part in (counts_and_strings, names_levels_lists, expressions_declarations, prints, names, documents, pending_areas, comparisons):
         yield from part()
 
 
-def prints_of_refused():
-    """Whatever check refuses, both prints refuse with the same number and place."""
+def others_of_refused():
+    """Whatever check refuses, both prints and the comparison of two rows refuse with the same number and place."""
     for title, call, expected in cases():
         if call.mode == product.CHECK and expected[0]:
             for mode in (0, 1):
                 yield "print, mode %d: %s" % (mode, title), call._replace(mode=mode, indent=2, width=80, lengths=(15, 5, 9)), expected
+            for rows in ((0, 0), (1, 0), (0, 65536)):
+                yield "rows %d and %d: %s" % (*rows, title), call._replace(mode=product.COMPARE, root=rows[0], second=rows[1]), expected
 
 
 def laid_out_pending():
@@ -320,7 +351,7 @@ def judged(program=None):
     for (title, call, expected), answer in zip(chosen, by_model):
         yield answer[:2] == expected and areas_hold(call, answer), "by the model: %s: %r, expected %r" % (title, answer[:3], expected)
     if program:
-        more = list(prints_of_refused()) + list(handed_out())
+        more = list(others_of_refused()) + list(handed_out())
         chosen, by_model = chosen + more, by_model + [product.by_model(call) for _, call, _ in more]
         for (title, call, expected), known, answer in zip(chosen, by_model, product.call(program, [call for _, call, _ in chosen])):
             what = "by the product: %s: %r, expected %r" % (title, answer.fault or answer[:3], expected)
