@@ -546,23 +546,29 @@ fn long_strings() {
 /// What include/tilusorgu.h asks for.
 const STACK: usize = 8 << 20;
 
-/// The deepest trees of each shape in rows of their own, the innermost part equal or another, in a thread with that stack. An overflow kills the test's process.
+/// `out` of the call in a thread with that stack. An overflow kills the test's process.
+fn in_eight_megabytes(pool: Pool, first: u32, second: u32) -> Vec<u64> {
+    let (said, heard) = channel();
+    std::thread::Builder::new().stack_size(STACK).spawn(move || said.send(into(&pool, first, second, 8).1)).unwrap();
+    heard.recv_timeout(Duration::from_secs(10)).expect("an answer in ten seconds")
+}
+
+/// The deepest trees of each shape in rows of their own, the innermost part equal or another.
 #[test]
 fn deepest_trees_in_eight_megabytes() {
     let deep = |before: &str, after: &str, leaf: &str| format!("{}{leaf}{}", before.repeat(255), after.repeat(255));
     for (before, after, path) in PLACES.into_iter().filter(|place| place.2.len() == 1) {
-        for (leaf, expected_equal) in [("@c", true), ("@d", false)] {
+        for (leaf, is_equal) in [("@c", true), ("@d", false)] {
             let (pool, first, second) = both(&deep(before, after, "@c"), &deep(before, after, leaf), Sharing::Apart);
             assert_eq!(pool.row(Table::Exprs, first.into()).unwrap()[6], 256, "{before}");
-            let (x, y) = (below(&pool, first, &path.repeat(255)), below(&pool, second, &path.repeat(255)));
-            let expected = if expected_equal { [0, 0, 1, 0, 0, 0, 0, 0] } else { [0, 0, 0, x.into(), y.into(), 0, 0, 0] };
-            let thread = std::thread::Builder::new().stack_size(STACK).spawn(move || into(&pool, first, second, 8)).unwrap();
-            assert_eq!(thread.join().unwrap(), (0, expected.to_vec()), "{before}");
+            let [x, y] = [first, second].map(|row| u64::from(below(&pool, row, &path.repeat(255))));
+            let expected = if is_equal { [0, 0, 1, 0, 0, 0, 0, 0] } else { [0, 0, 0, x, y, 0, 0, 0] };
+            assert_eq!(in_eight_megabytes(pool, first, second), expected, "{before}");
         }
     }
-    let mut rows = Rows::default();
-    let (first, second) = (alike(&mut rows, 4, 5, doubled), alike(&mut rows, 4, 5, neighbours));
-    let pool = rows.pool();
-    let thread = std::thread::Builder::new().stack_size(STACK).spawn(move || into(&pool, first, second, 8)).unwrap();
-    assert_eq!(thread.join().unwrap(), (0, vec![0, 0, 1, 0, 0, 0, 0, 0]));
+    for (kind, wide) in [(3, 4), (4, 125), (5, 4)] {
+        let mut rows = Rows::default();
+        let (first, second) = (alike(&mut rows, wide, kind, doubled), alike(&mut rows, wide, kind, neighbours));
+        assert_eq!(in_eight_megabytes(rows.pool(), first, second), [0, 0, 1, 0, 0, 0, 0, 0], "kind {kind}");
+    }
 }
