@@ -1,11 +1,14 @@
 //! Benchmarks of whole prints: see README.md. Prints Markdown tables. What is printed stands in the request files that requests.py writes.
 //!
 //!     prints FOLDER [ORACLE]                    all tables
+//!     prints FOLDER --groups [ORACLE]           the table of groups of types alone
 //!     prints FOLDER --one NAME I                prints request I of NAME.req and says its number, place and time
 //!     prints FOLDER --stack NAME I BYTES        prints it in a thread with a stack of so many bytes
 mod common;
+mod requests;
 
 use common::{best, in_thread, micros, now};
+use requests::{read, Request};
 use std::collections::BTreeMap;
 use std::io::{Read, Write};
 use std::path::{Path, PathBuf};
@@ -21,41 +24,6 @@ extern "C" {
         rows: *mut u32, row_words: usize, text: *mut u8, text_bytes: usize, listing: *mut u8, listing_bytes: usize, out: *mut u64, out_count: usize) -> u32;
     fn tilusorgu_print_declar(bytes: *const u8, byte_count: usize, words: *const u32, word_count: usize, root: u32, indent: u32, width: u32,
         rows: *mut u32, row_words: usize, text: *mut u8, text_bytes: usize, listing: *mut u8, listing_bytes: usize, out: *mut u64, out_count: usize) -> u32;
-}
-
-// ---- requests
-
-struct Request {
-    title: String,
-    /// As it stands in the file.
-    raw: Vec<u8>,
-    declaration: bool,
-    /// root, indent, width
-    numbers: [u32; 3],
-    bytes: Vec<u8>,
-    words: Vec<u32>,
-}
-
-fn read(folder: &Path, name: &str) -> Vec<Request> {
-    let data = std::fs::read(folder.join(name).with_extension("req")).expect("requests.py writes the requests");
-    let titles = std::fs::read_to_string(folder.join(name).with_extension("txt")).expect("requests.py writes the titles");
-    let u = |at: usize| u32::from_le_bytes(data[at..at + 4].try_into().unwrap());
-    let (mut at, mut out) = (0, Vec::new());
-    for title in titles.lines() {
-        let byte_end = at + 24 + u(at + 20) as usize;
-        let end = byte_end + 4 + 4 * u(byte_end) as usize;
-        out.push(Request {
-            title: title.into(),
-            raw: data[at..end].to_vec(),
-            declaration: u(at + 4) == 1,
-            numbers: [u(at + 8), u(at + 12), u(at + 16)],
-            bytes: data[at + 24..byte_end].to_vec(),
-            words: data[byte_end + 4..end].chunks(4).map(|w| u32::from_le_bytes(w.try_into().unwrap())).collect(),
-        });
-        at = end;
-    }
-    assert!(at == data.len(), "a title for each request");
-    out
 }
 
 struct Areas {
@@ -265,6 +233,10 @@ fn table(folder: &Path, name: &str, title: &str, oracle: Option<&str>, runs: usi
     }
 }
 
+fn groups(folder: &Path, oracle: Option<&str>) {
+    table(folder, "groups", "Groups of types that share a long front", oracle, 10, 100);
+}
+
 // ---- processes of their own
 
 fn me(folder: &Path, arguments: &[String]) -> Command {
@@ -362,6 +334,10 @@ fn main() {
     let words: Vec<&str> = arguments.iter().map(String::as_str).collect();
     let folder = PathBuf::from(words.first().expect("the folder of the requests"));
     match words[1..] {
+        ["--groups", ref oracle @ ..] => {
+            let oracle = oracle.first().map(|s| s.to_string());
+            in_thread(64 << 20, move || groups(&folder, oracle.as_deref()));
+        }
         ["--one", name, i] => one(&folder, name, i.parse().unwrap()),
         ["--stack", name, i, bytes] => {
             let q = read(&folder, name).swap_remove(i.parse().unwrap());
@@ -378,6 +354,7 @@ fn main() {
                 let oracle = oracle.as_deref();
                 corpus(&at, oracle);
                 table(&at, "documents", "Documents of 11,000 to 16,000 rows", oracle, 10, 100);
+                groups(&at, oracle);
                 table(&at, "declarations", "Small declarations", oracle, 200, 20);
             });
             pools(&folder);

@@ -69,11 +69,58 @@ def documents():
             ("c applied to itself, doubled 10 times, in 13 rows", whole([self_applied(10, C)]))]
     for title, tree in made:
         title, q = expression(title, tree)
-        pool = model.Pool(q.area, q.words)
-        assert pool.fault == (0, 0), (title, pool.fault)
-        rows, text = model.rows_of(model.document(pool, q.mode, q.root, q.indent))
-        assert text is not None, (title, rows)
-        yield title, q
+        yield title, printable(title, q)
+
+
+# ---- groups of binders whose types share a long front and part in the last argument
+
+def parting(count, arguments, share, of=lambda i: const("a")):
+    """fun (x : T a .. a b0) (x : T a .. a b1) ..: so many types, each with so many equal arguments before the one that is its own. Types of separate rows share
+    nothing."""
+    b = Builder(share)
+    return b, chain(lam, count, C, lambda i: apply(const("T"), *[of(i)] * arguments, const("b%d" % i)))
+
+
+def doubling_front(b, count, doublings):
+    """Such types whose equal part is one argument, `fun (x x : T) => c` nested so deep: far larger as a tree than as it is listed."""
+    c, fronts = doubling_types(b, doublings, count)
+    row, name = c, b.name(("x",))
+    for i in reversed(range(count)):
+        of = applied_row(b, b.expr(const("T")), fronts[i], b.expr(const("b%d" % i)))
+        row = b.row(5, (name, 0, of, row), (of,), row)
+    return rust.Request(EXPRESSION, row, 2, 80, *b.pool())
+
+
+def applied_row(b, head, *arguments):
+    for a in arguments:
+        head = b.row(3, (head, a), (head, a))
+    return head
+
+
+def groups():
+    """A document has room for some 2,000 arguments, so the more types, the fewer arguments."""
+    made = []
+    for count, arguments in ((100, 16), (50, 36), (10, 190)):
+        for share, rows in ((True, "shared rows"), (False, "separate rows")):
+            b, tree = parting(count, arguments, share)
+            made.append(("%d types of %d equal arguments and one of their own, %s" % (count, arguments, rows), b, tree))
+        b, tree = parting(count, arguments + arguments // 4, True, lambda i: var(i))
+        made.append(("%d types of %d arguments that are equal after lifting and one of their own" % (count, arguments + arguments // 4), b, tree))
+    for title, b, tree in made:
+        root = b.expr(tree)
+        yield title, printable(title, rust.Request(EXPRESSION, root, 2, 80, *b.pool()))
+    for count, doublings in ((50, 6), (20, 15)):
+        title = "%d types over `fun (x x : T) => c` nested %d deep, rows of their own, and an argument of their own" % (count, doublings)
+        yield title, printable(title, doubling_front(Builder(False), count, doublings))
+
+
+def printable(title, q):
+    """The request, which is accepted and whose document is within the limits."""
+    pool = model.Pool(q.area, q.words)
+    assert pool.fault == (0, 0), (title, pool.fault)
+    rows, text = model.rows_of(model.document(pool, q.mode, q.root, q.indent))
+    assert text is not None, (title, rows)
+    return q
 
 
 # ---- small declarations
@@ -289,6 +336,106 @@ def pools():
         yield expression("a constant applied to itself 255 times, its name 63 components of 16 MiB, %s" % marks, apply(long, *[long] * 255))
 
 
+# ---- two rows compared: they stand where a print's root and indent do
+
+def pair(b, first, second):
+    return rust.Request(EXPRESSION, first, second, 0, *b.pool())
+
+
+def pair_of_trees(first, second):
+    b = Builder(False)
+    return pair(b, b.expr(first), b.expr(second))
+
+
+def application_layers(b, count, wide, leaves, below):
+    """As lambda_layers, of applications over these leaves in turn."""
+    rows = [b.expr(leaves[i % len(leaves)]) for i in range(wide)]
+    for _ in range(count):
+        rows = [applied_row(b, rows[below(i, wide)[0]], rows[below(i, wide)[1]]) for i in range(wide)]
+    return rows
+
+
+def layered(wide, first, second, leaves=(C,), others=(C,)):
+    b = Builder(False)
+    return pair(b, application_layers(b, 250, wide, leaves, first)[0], application_layers(b, 250, wide, others, second)[0])
+
+
+def behind_fronts(first, second):
+    """The same 250 layers of four rows, behind these two functions."""
+    b = Builder(False)
+    tops = [application_layers(b, 250, 4, (C,), twice)[0] for _ in range(2)]
+    return pair(b, *(applied_row(b, b.expr(front), top) for front, top in zip((first, second), tops)))
+
+
+def another_head(count):
+    """Two heads, each applied to `c`, to `c` applied to itself, and so on: the heads are met last, after all that is equal."""
+    b = Builder(False)
+    tops, parts = [b.expr(F), b.expr(C)], [b.expr(const("c")), b.expr(const("c"))]
+    for _ in range(count):
+        tops = [applied_row(b, top, part) for top, part in zip(tops, parts)]
+        parts = [applied_row(b, part, part) for part in parts]
+    return pair(b, *tops)
+
+
+def level_sorts(wide):
+    b = Builder(False)
+    rows = []
+    for _ in range(2):
+        levels = [b.append(LEVELS, (4, b.name(("u%d" % i,)), 0)) for i in range(wide)]
+        for _ in range(62):
+            levels = [b.append(LEVELS, (2, levels[twice(i, wide)[0]], levels[twice(i, wide)[1]])) for i in range(wide)]
+        rows.append(b.row(1, (levels[0],)))
+    return pair(b, *rows)
+
+
+def strings_of(length):
+    b = Builder(False)
+    return pair(b, *(b.expr(("str", "a" * length)) for _ in range(2)))
+
+
+def comparisons():
+    spine = lambda head, last: apply(const(head), *[const("a")] * 200, const(last))
+    yield "constants, the same name", pair_of_trees(C, C)
+    yield "200 equal arguments and one more, equal", pair_of_trees(spine("f", "b"), spine("f", "b"))
+    yield "the same, parting in the last argument", pair_of_trees(spine("f", "b"), spine("f", "c"))
+    yield "the same, parting in the function", pair_of_trees(spine("f", "b"), spine("g", "b"))
+    yield "200 lambdas, parting in the body", pair_of_trees(chain(lam, 200, C, lambda i: F), chain(lam, 200, F, lambda i: F))
+    yield "200 lambdas, parting in the first type", pair_of_trees(chain(lam, 200, C, lambda i: F), chain(lam, 200, C, lambda i: F if i else C))
+    yield "c applied to itself, doubled 255 times", pair_of_shared(255)
+    yield "250 layers of 4 applications over the rows 2i and 2i + 1, equal", layered(4, twice, twice)
+    yield "the same, one over two neighbours", layered(4, twice, neighbours)
+    yield "the same, another leaf: the first of the four", layered(4, twice, twice, (C, F, C, F), (const("d"), F, C, F))
+    yield "the same, equal, behind different functions", behind_fronts(C, F)
+    yield "two heads, each applied to `c` doubled 0 to 249 times", another_head(250)
+    yield "250 layers of 125 applications over the rows 2i and 2i + 1, equal", layered(125, twice, twice)
+    yield "the same, one over two neighbours", layered(125, twice, neighbours)
+    yield "sorts of 62 layers of 500 levels `max`", level_sorts(500)
+    yield "string literals of 8 MiB, equal", strings_of(1 << 23)
+
+
+def pair_of_shared(times):
+    """Each tree in rows that are shared within it."""
+    b, rows = Builder(False), []
+    for _ in range(2):
+        row = b.expr(const("c"))
+        for _ in range(times):
+            row = applied_row(b, row, row)
+        rows.append(row)
+    return pair(b, *rows)
+
+
+def compared_stacks():
+    """The deepest trees of each shape, in rows of their own, and layers."""
+    for title, hole in HOLES:
+        b = Builder(True)
+        first = b.expr(deepest(hole))
+        b.known.clear()
+        b.done.clear()
+        yield title, pair(b, first, b.expr(deepest(hole)))
+    yield "250 layers of 4 applications", layered(4, twice, neighbours)
+    yield "250 layers of 125 applications", layered(125, twice, neighbours)
+
+
 # ---- the deepest trees
 
 HOLES = (
@@ -339,8 +486,8 @@ def write(folder, name, made):
 
 
 def main():
-    for name, made in (("corpus", corpus), ("documents", documents), ("declarations", declarations), ("pools", pools), ("stacks", stacks)):
-        write(sys.argv[1], name, made())
+    for made in (corpus, documents, groups, declarations, pools, stacks, comparisons, compared_stacks):
+        write(sys.argv[1], made.__name__, made())
 
 
 if __name__ == "__main__":
