@@ -1,4 +1,4 @@
-"""Deliberate faults in the model: each is put into a copy, and the corpus replayed against that copy has to find it (two minutes).
+"""Deliberate faults in the model: each is put into a copy, and the corpus replayed against that copy has to find it (three minutes).
 
     faults.py [part of a title]
 """

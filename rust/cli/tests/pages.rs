@@ -44,15 +44,16 @@ fn examples_of_the_listing_page() {
     }
 }
 
-/// The lemma that README.md lists.
+/// The lemma that README.md lists, and what it compares of it.
 #[test]
 fn example_of_the_readme() {
     let (source, pool) = (format!("{}/../../samples/lemma.txt", env!("CARGO_MANIFEST_DIR")), folder("").join("readme.pool"));
     let pool = pool.to_str().unwrap();
     assert_eq!(run(&["pack", &source, "-o", pool]).2, 0);
-    let (listing, ..) = run(&["list", pool, "--declar", "Register.cross"]);
-    let indented: String = listing.lines().map(|line| format!("    {line}\n")).collect();
-    assert!(page("README.md").contains(&indented), "{indented}");
+    for words in [&["list", pool, "--declar", "Register.cross"][..], &["compare", pool, "18", "24"]] {
+        let indented: String = run(words).0.lines().map(|line| format!("    {line}\n")).collect();
+        assert!(page("README.md").contains(&format!("\n\n{indented}\n")), "{indented}");
+    }
 }
 
 /// A folder with the files of docs/MISTAKES.md.
