@@ -1,4 +1,5 @@
-/* Prints one declaration of a pool typed by hand, `axiom k : @C`, hands out the document's first text, shows what a refusal looks like, and compares two expressions. */
+/* Prints one declaration of a pool typed by hand, `axiom k : @C`, hands out the document's first text, shows what a refusal looks like, and
+ * compares the pool's two expressions. */
 #include "tilusorgu.h"
 #include <inttypes.h>
 #include <stdio.h>

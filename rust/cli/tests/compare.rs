@@ -104,6 +104,23 @@ fn wrong_command_lines() {
     assert!(run(&["compare", "--help"]).0.contains("tilusorgu compare FILE ROW ROW"));
 }
 
+/// Files with one byte changed: an answer, or a message and nothing else.
+#[test]
+fn damaged_files() {
+    let fine = encode(&pack("(define e (@f @a (Sort u))) (axiom k.{u} (@f @b))", Sharing::Apart).unwrap().pool);
+    for at in 0..fine.len() {
+        let mut bytes = fine.clone();
+        bytes[at] ^= [1, 0x80, 0xff][at % 3];
+        let path = file("compare_damaged.pool", &bytes);
+        let (output, messages, status) = run(&["compare", path.to_str().unwrap(), "4", "7"]);
+        assert!((0..=2).contains(&status) && !messages.contains("panicked"), "byte {at}: {messages}");
+        assert!(
+            if status == 0 { output.starts_with("differ: ") && messages.is_empty() } else { output.is_empty() && !messages.is_empty() },
+            "byte {at}: {output}{messages}"
+        );
+    }
+}
+
 #[test]
 fn from_standard_input() {
     let pool = encode(&pack("(define e (@f @a))", Sharing::Shared).unwrap().pool);
