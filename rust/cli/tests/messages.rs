@@ -88,7 +88,7 @@ fn assert_script_fails(script: &str, words: &[&str], library: Option<&str>, stat
 
 #[test]
 fn scripts() {
-    assert_script_fails("list-sample", &["nosuch"], None, 2, "there is no sample 'nosuch'; there are: chains definition expression ");
+    assert_script_fails("list-sample", &["nosuch"], None, 2, "there is no sample 'nosuch'; there are: chains compare definition expression ");
     assert_script_fails(
         "rust/build-library",
         &[],
