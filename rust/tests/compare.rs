@@ -515,15 +515,7 @@ fn levels_in_layers_and_long_lists() {
         }
     }
     for different in [false, true] {
-        let mut rows = Rows { levels: vec![[0, 0, 0]; 60_000], ..Rows::default() };
-        let tops = [(); 2].map(|()| rows.level_layers(62, 2, doubled));
-        let last = rows.level([1, tops[0], 0]);
-        rows.entries = (0..65_001).map(|i| tops[i % 2]).collect();
-        rows.lists = vec![[0, 65_000], [1, 65_000]];
-        if different {
-            rows.entries[65_000] = last;
-        }
-        let [first, second] = [1, 2].map(|list| rows.row(2, [2, list, 0, 0, 0], &[], None, 0));
+        let (rows, [first, second]) = Rows::long_lists(different);
         let expected = if different { Differ(first, second) } else { Equal };
         assert_eq!(within(SECOND, rows.pool(), first, second), expected);
     }

@@ -158,15 +158,7 @@ fn groups_of_doubling_types() {
 #[test]
 fn long_lists_of_levels() {
     for (different, together) in [(false, true), (true, false)] {
-        let mut rows = Rows { levels: vec![[0, 0, 0]; 60_000], ..Rows::default() };
-        let tops = [(); 2].map(|()| rows.level_layers(62, 2, doubled));
-        let last = rows.level([1, tops[0], 0]);
-        rows.entries = (0..65_001).map(|i| tops[i % 2]).collect();
-        rows.lists = vec![[0, 65_000], [1, 65_000]];
-        if different {
-            rows.entries[65_000] = last;
-        }
-        let (first, second) = (rows.row(2, [2, 1, 0, 0, 0], &[], None, 0), rows.row(2, [2, 2, 0, 0, 0], &[], None, 0));
+        let (rows, [first, second]) = Rows::long_lists(different);
         let listing = printed(rows.two_lambdas(first, second)).unwrap();
         assert_eq!(listing, if together { "fun (x x : @C) => @c" } else { "fun (x : @C) (x : @C) => @c" });
     }

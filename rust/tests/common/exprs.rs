@@ -85,6 +85,20 @@ impl Rows {
         self.levels.len() as u32 - 1
     }
 
+    /// Two constants with lists of 65,000 levels, equal or different in the last one, in rows of their own; the rows before them are of no use.
+    pub fn long_lists(different: bool) -> (Rows, [u32; 2]) {
+        let mut rows = Rows { levels: vec![[0, 0, 0]; 60_000], ..Rows::default() };
+        let tops = [(); 2].map(|()| rows.level_layers(62, 2, doubled));
+        let last = rows.level([1, tops[0], 0]);
+        rows.entries = (0..65_001).map(|i| tops[i % 2]).collect();
+        rows.lists = vec![[0, 65_000], [1, 65_000]];
+        if different {
+            rows.entries[65_000] = last;
+        }
+        let constants = [1, 2].map(|list| rows.row(2, [2, list, 0, 0, 0], &[], None, 0));
+        (rows, constants)
+    }
+
     pub fn pool(self) -> Pool {
         let (strings, names) = ([[0, 1], [1, 1], [2, 1]], [[0, 0, 0, 0], [1, 0, 0, 0], [1, 0, 1, 0], [1, 0, 2, 0]]);
         let counts = [self.levels.len(), 1 + self.lists.len(), self.entries.len(), self.exprs.len()].map(|n| n as u32);
