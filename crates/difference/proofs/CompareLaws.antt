@@ -22,8 +22,8 @@ use Rattle.difference.specs.Order.{Comparison, equal, differ, firstTo, f
 use Rattle.difference.specs.Walks.{firstAt, Tells, TwoParts, Walked, Compares}
 use Rattle.difference.proofs.OrderLaws.{isEqual, equal-is, equal-trees}
 
-pub nothing-told : (asked : Comparison) → Tells asked 2 0 0
-nothing-told asked = record { no = λ e. absurd (omega arith); yes = λ e. absurd (omega arith) }
+pub tells-all : (asked : Comparison) (d v x y : ℕ) → Tells asked v x y → v < 2 → Compares asked d v x y
+tells-all asked d v x y t h = record { no = t .no; yes = t .yes; apart = λ m n. absurd (omega (arith, m, n)) }
 
 module _ (bs ns ws : List ℕ) (t : Tables) (ready : Ready bs ns ws t) (a b : ℕ) (ha : a < E ws) (hb : b < E ws) where
   abbrev p : Pool

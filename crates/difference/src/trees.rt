@@ -48,30 +48,6 @@ fn try_steps(
     )
 }
 
-// Sixteen times as many steps are tried once more, if what else there is would go over more rows than were tried.
-fn try_more(
-    bytes: &[u8],
-    names: &[u32],
-    words: &[u32],
-    t: Tables,
-    a: usize,
-    b: usize,
-    d: usize,
-) -> Found
-    requires { ⌜ (Ready (now bytes) (now names) (now words) t) × (a < E (now words)) × (b < E (now words)) ⌝ }
-    ensures { λ v. ⌜ Tells (firstPair (lent bytes names words) d a b) (v .answer) (v .a) (v .b) ⌝ }
-{
-    if a <= 256 {
-        return Found {
-            answer: 2,
-            a: 0,
-            b: 0,
-            left: 0,
-        };
-    }
-    try_steps(bytes, names, words, t, a, b, d, 4096)
-}
-
 // Without a limit. The arrays are as long as the pool asks, so that a small one clears little.
 fn search_few(
     bytes: &[u8],
@@ -208,6 +184,34 @@ fn settle(
     search(bytes, names, words, t, a, b, d)
 }
 
+// Sixteen times as many steps are tried once more, if what else there is would go over more rows than were tried. It calls itself, so
+// that the arrays of what it calls stay out of its frame.
+fn compare_in(
+    bytes: &[u8],
+    names: &[u32],
+    words: &[u32],
+    t: Tables,
+    a: usize,
+    b: usize,
+    d: usize,
+    steps: usize,
+) -> Found
+    requires { ⌜ (Ready (now bytes) (now names) (now words) t) × (a < E (now words)) × (b < E (now words)) × (0 < steps) ⌝ }
+    ensures { λ v. ⌜ Compares (firstPair (lent bytes names words) d a b) d (v .answer) (v .a) (v .b) ⌝ }
+{
+    let tried = try_steps(bytes, names, words, t, a, b, d, steps);
+    if tried.answer < 2 {
+        return tried;
+    }
+    if a <= steps {
+        return settle(bytes, names, words, t, a, b, d);
+    }
+    if steps < 4096 {
+        return compare_in(bytes, names, words, t, a, b, d, steps * 16);
+    }
+    settle(bytes, names, words, t, a, b, d)
+}
+
 // The tree of row a, its loose variables lifted by d, and that of row b: equal (1), or the first pair of rows that differ (0),
 // or, of a lifted tree alone, that they differ (2).
 pub fn compare(
@@ -222,15 +226,7 @@ pub fn compare(
     requires { ⌜ (Ready (now bytes) (now names) (now words) t) × (a < E (now words)) × (b < E (now words)) ⌝ }
     ensures { λ v. ⌜ Compares (firstPair (lent bytes names words) d a b) d (v .answer) (v .a) (v .b) ⌝ }
 {
-    let tried = try_steps(bytes, names, words, t, a, b, d, 256);
-    if tried.answer < 2 {
-        return tried;
-    }
-    let more = try_more(bytes, names, words, t, a, b, d);
-    if more.answer < 2 {
-        return more;
-    }
-    settle(bytes, names, words, t, a, b, d)
+    compare_in(bytes, names, words, t, a, b, d, 256)
 }
 
 // Whether the tree of row a, its loose variables lifted by d, is that of row b, all fields. Their depths and loose words say so first.
