@@ -1,4 +1,4 @@
-// Equality of trees after lifting, without walking a shared row twice.
+// Equality of strings, names, levels and lists of levels, and of all fields of two rows but their parts.
 mod bytes;
 pub mod levels;
 pub mod lists;

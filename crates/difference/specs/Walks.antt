@@ -20,11 +20,7 @@ isPlain ws d c a = eqb d 0 || leb (exprWord ws a 7) c
 
 -- ---- rows that were found equal
 
--- whatever the rows are: where an array says the truth before, it does so afterwards
-pub record Keeps (before after : List ℕ) : Type 0 where
-  pub keeps : (S : ℕ → Shape) → Owes S S before → Owes S S after
-
--- or where x and y are equal
+-- whatever the rows are: where an array says the truth before, and x and y are equal, it does so afterwards
 pub record KeepsWhere (before after : List ℕ) (x y : ℕ) : Type 0 where
   pub keeps : (S : ℕ → Shape) → Owes S S before → S x ≡ S y → Owes S S after
 
@@ -32,10 +28,12 @@ pub record KeepsWhere (before after : List ℕ) (x y : ℕ) : Type 0 where
 pub record Root (kept : List ℕ) (x v : ℕ) : Type 0 where
   pub is : (S : ℕ → Shape) → Owes S S kept → S x ≡ S v
 
+-- the same, and what the array says stays true
 pub record Finds (before after : List ℕ) (x v : ℕ) : Type 0 where
   pub keeps : (S : ℕ → Shape) → Owes S S before → Owes S S after
   pub is : (S : ℕ → Shape) → Owes S S before → S x ≡ S v
 
+-- v tells, where it is true, that x and y are equal
 pub record Classed (before after : List ℕ) (x y : ℕ) (v : Bool) : Type 0 where
   pub keeps : (S : ℕ → Shape) → Owes S S before → Owes S S after
   pub one : v ≡ true → (S : ℕ → Shape) → Owes S S before → S x ≡ S y
@@ -86,6 +84,7 @@ pub record TwoParts (bs ns ws : List ℕ) (t : Tables) (kept : List ℕ) (x y c 
   pub room : c + x ≤ 1099511627776
   pub true-so-far : Owes (treeAt (over bs ns ws)) (treeAt (over bs ns ws)) kept
 
+-- what a walk tells, at every bound above the row; what it kept is true; where there is no limit it tells all
 pub record Walked (p : Pool) (d c x y : ℕ) (limited : Bool) (kept : List ℕ) (answer a b : ℕ) : Type 0 where
   pub told : (n : ℕ) → x ≤ n → Tells (firstAt n p d c x y) answer a b
   pub true-still : Owes (treeAt p) (treeAt p) kept
