@@ -30,7 +30,7 @@ EVENTS = {"j": (model.JOIN,), "g": (model.GROUP,), "n": (model.NEST, 2), "0": (m
 
 SPECIMEN = "@Njgn_j>j1jg@Njjg"  # @Nat → @Nat, document 01's: 17 rows, 12 text bytes, 13 listed
 EMPTY_BREAKS = "a0jdjg0jhj"  # breaks whose blank is empty, in a group and outside
-NEWLINES = "A1jBj1jDjg"  # texts that hold newlines: they count as lines and do not end a row
+NEWLINES = "A1jBj1jDjg"  # texts that hold newlines: they begin no line and do not end a row
 LEAVES = "x1" * 4095 + "x"
 LEFT_COMB = "x" + "".join(leaf + "j" for leaf in LEAVES) + "g"  # each join is the left child of the next: half of the rows are pending at once
 RIGHT_COMB = "x" + LEAVES + "j" * 8191 + "g"  # each join is the last child of the next

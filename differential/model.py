@@ -712,7 +712,7 @@ class Layout:
     def __init__(self, rows, text, width, keep=None):
         self.rows, self.text, self.width = rows, text, width
         self.keep = keep
-        self.listing, self.position, self.newlines = bytearray(), 0, 0
+        self.listing, self.position, self.broken = bytearray(), 0, 0
         self.row_start, self.row_end, self.longest, self.fit_tests = 0, width, 0, 0
         self.after = self.distances()
 
@@ -736,7 +736,6 @@ class Layout:
         if self.keep is None or self.position < self.keep:
             self.listing += data if self.keep is None else data[:self.keep - self.position]
         self.position += len(data)
-        self.newlines += data.count(b"\n")
 
     def fits(self, row):
         '''"position + flat size + distance from its end to the next break (or to the end) is at most the row's end"'''
@@ -746,6 +745,7 @@ class Layout:
     def newline(self, amount):
         '''"a newline, sets the row's end to position + width, and then emits the nest in spaces"'''
         self.longest = max(self.longest, self.position - self.row_start)
+        self.broken += 1
         self.emit(b"\n")
         self.row_start, self.row_end = self.position, self.position + self.width
         self.emit(b" " * amount)
@@ -767,7 +767,8 @@ class Layout:
             elif row[0] == BREAK:
                 self.newline(sum(self.rows[n][1] for n in nests))
         self.longest = max(self.longest, self.position - self.row_start)
-        return Laid(bytes(self.listing), self.position, self.newlines + 1, self.longest, self.fit_tests)
+        # "The lines figure becomes broken places plus 1" (02, P4)
+        return Laid(bytes(self.listing), self.position, self.broken + 1, self.longest, self.fit_tests)
 
 
 def layout(rows, text, width, keep=None):
@@ -799,7 +800,7 @@ class Pending:
 
 def layout_pending(rows, text, width, area):
     '''"takes the top one until none is left"; "the same listing, counts and refusals as the first". What was pending is left in the area.'''
-    listing, row_start, longest, tests = bytearray(), 0, 0, 0
+    listing, row_start, lines, longest, tests = bytearray(), 0, 1, 0, 0
     pending = Pending(area)
     pending.put(len(rows) - 1, 0, 0, 0)
     while pending.entries:
@@ -813,6 +814,7 @@ def layout_pending(rows, text, width, area):
             longest = max(longest, len(listing) - row_start)
             row_start = len(listing) + 1
             listing += b"\n" + b" " * nest
+            lines += 1
         elif kind == JOIN:
             _, _, _, right_rows, _, right_first, right_has = rows[at - 1]
             pending.put(at - 1, nest, flat, distance)
@@ -824,7 +826,7 @@ def layout_pending(rows, text, width, area):
             flat = int(flat or len(listing) + size + distance <= row_start + width)
             pending.put(at - 1, nest, flat, distance)
     longest = max(longest, len(listing) - row_start)
-    return Laid(bytes(listing), len(listing), listing.count(10) + 1, longest, tests)
+    return Laid(bytes(listing), len(listing), lines, longest, tests)
 
 
 # ---------------------------------------------------------------------------------------------------------------------------------

@@ -93,7 +93,8 @@ class Follow:
         self.longest = max(self.longest, self.position - self.start)
         if not self.true or self.position != len(self.listing):
             return None
-        lines = self.listing.count(b"\n") + 1
+        # each text is listed once, so the newlines that no text has are those of broken places
+        lines = self.listing.count(b"\n") - self.text.count(b"\n") + 1
         return (len(self.rows), len(self.text), len(self.listing), lines, self.longest, self.tests)
 
     def meet(self, data):

@@ -50,6 +50,25 @@ fn a_small_document() {
     assert_eq!(judged(small().given(), 3, SMALL_WORDS, 68), (Ok(broken), format!("a\n{:64}bc", "").into_bytes()));
 }
 
+/// G("a⏎b" | "⏎⏎" | "c"): newlines of texts begin no line, in either layout.
+#[test]
+fn newlines_of_texts() {
+    let mut d = Document::default();
+    d.text("a\nb");
+    for text in ["\n\n", "c"] {
+        d.line(1);
+        d.join();
+        d.text(text);
+        d.join();
+    }
+    d.group();
+    with_stack(|| {
+        for (width, lines) in [(0, 3), (7, 3), (8, 1)] {
+            assert_eq!(assert_alike(&d, width, 8, "newlines").unwrap().lines, lines, "width {width}");
+        }
+    });
+}
+
 /// Every set of what can be wrong, of which the first in the order 9, 6, 30, 22 is answered.
 #[test]
 fn the_order_of_refusals() {
@@ -172,7 +191,8 @@ fn assert_alike(d: &Document, width: u32, listing_bytes: usize, what: &str) -> R
     answer
 }
 
-/// All documents of so many rows at most that texts, breaks with a blank and without, joins, nests and groups make, each once.
+/// All documents of so many rows at most that texts (with a newline), breaks with a blank and without, joins, nests and groups make, each
+/// once.
 fn small_documents(most: usize, d: &Document, each: &mut impl FnMut(&Document)) {
     if d.open() == 1 {
         each(d);
@@ -180,7 +200,7 @@ fn small_documents(most: usize, d: &Document, each: &mut impl FnMut(&Document)) 
     if d.count() == most {
         return;
     }
-    let steps: [fn(&mut Document); 6] = [|d| d.text("ab"), |d| d.line(0), |d| d.line(1), Document::join, |d| d.nest(1), Document::group];
+    let steps: [fn(&mut Document); 6] = [|d| d.text("a\n"), |d| d.line(0), |d| d.line(1), Document::join, |d| d.nest(1), Document::group];
     for (i, step) in steps.iter().enumerate() {
         let needed = [0, 0, 0, 2, 1, 1][i];
         if d.open() >= needed {

@@ -2,61 +2,38 @@
 use Prim.Native.Nat.{ℕ, _+_, _-_, _≤_, _<_, max}
 use native.Mathlib.Omega.{arith}
 use native.Mathlib.Nat.{add-zero, zero-add}
-use native.Mathlib.Numerals.{add-one}
 use mathlib.Core.Bool.{Bool, true, false, cond}
 use mathlib.Core.List.{List, [], _∷_, _++_}
 use mathlib.Core.Path.{_≡_, refl, sym, ap, ap₂, _∙_, subst}
-use lib.ListN.{length, take, getD}
-use lib.Seq.{take-suc, take-all}
-use lib.Dec.{ltb, eqb}
+use lib.ListN.{length}
+use lib.Dec.{ltb}
 use borrow.Author.Tests.{lt-ltb, le-ltb, ltb-false}
 use Rattle.document.specs.Rows.{fault, countsOk, Accepted}
 use Rattle.document.proofs.Faults.{fault-bound, accepted-counts, accepted-sound}
 use Rattle.layout.specs.declared.cursor.Cursor.{Cursor}
+use Rattle.layout.specs.declared.Counts.{Counts}
 use Rattle.layout.specs.declared.Laid.{Laid}
 use Rattle.layout.specs.declared.Laid.the-variants.{Done, Listing}
 use Rattle.layout.specs.declared.Laid.the-variants as laids
 use Rattle.layout.specs.declared.Admission.{Admission}
 use Rattle.layout.specs.declared.Admission.the-variants as admissions
 use Rattle.layout.specs.Layout.{Piece, textᵖ, blankᵖ, newlineᵖ, testᵖ, after, run, start, pieces}
-use Rattle.layout.specs.Listing.{bytesOf, countOf, lines, longestRow, testsIn}
+use Rattle.layout.specs.Listing.{bytesOf, brokenPlaces, lines, longestRow, testsIn}
 use Rattle.layout.specs.Paint.{paint}
 use Rattle.layout.specs.Call.{countsOf, untouched, listed, docOf, outcome}
 use Rattle.layout.specs.Contract.{Emitteds, Given, Room, LaidOut, admission, counted, reported}
 use Rattle.layout.proofs.Painting.{length-paint}
 use Rattle.layout.proofs.Pieces.{run-position}
 
--- ---- counting a byte
-
-count-append : (b : ℕ) (s t : List ℕ) → countOf b (s ++ t) ≡ countOf b s + countOf b t
-unfolding countOf
-count-append b [] t = sym (zero-add (countOf b t))
-count-append b (x ∷ s) t = let h = count-append b s t in omega arith
-
-pub count-none : (b : ℕ) → 0 ≡ countOf b []
-unfolding countOf
-count-none b = refl
-
-pub count-next : (b : ℕ) (s : List ℕ) (i n one : ℕ) → i < length s → n ≡ countOf b (take i s) → one ≡ cond (eqb (getD s i 0) b) 1 0 → n + one ≡ countOf b (take (i + 1) s)
-unfolding countOf
-count-next b s i n one h p q =
-    let z : countOf b (getD s i 0 ∷ []) ≡ one = add-zero _ ∙ sym q in
-    let a : countOf b (take i s ++ (getD s i 0 ∷ [])) ≡ countOf b (take i s) + countOf b (getD s i 0 ∷ []) = count-append b (take i s) (getD s i 0 ∷ []) in
-    let e : countOf b (take (i + 1) s) ≡ countOf b (take i s ++ (getD s i 0 ∷ [])) = ap (λ (k : ℕ). countOf b (take k s)) (add-one i) ∙ ap (countOf b) (take-suc s i 0 h) in
-    ap₂ _+_ p (sym z) ∙ sym a ∙ sym e
-
-pub count-all : (b : ℕ) (s : List ℕ) (i n : ℕ) → n ≡ countOf b (take i s) → length s ≤ i → n ≡ countOf b s
-count-all b s i n e h = e ∙ ap (countOf b) (take-all i s h)
-
 -- ---- what the cursor has counted
 
-run-tests : (w : ℕ) (c : Cursor) (ps : List Piece) → run w c ps .tests ≡ c .tests + testsIn ps
-unfolding run testsIn
-run-tests w c [] = sym (add-zero (c .tests))
-run-tests w c (textᵖ s ∷ ps) = run-tests w (after w c (textᵖ s)) ps
-run-tests w c (blankᵖ k ∷ ps) = run-tests w (after w c (blankᵖ k)) ps
-run-tests w c (newlineᵖ b k ∷ ps) = run-tests w (after w c (newlineᵖ b k)) ps
-run-tests w c (testᵖ b ∷ ps) = let h = run-tests w (after w c (testᵖ b)) ps in omega arith
+run-lines-tests : (w : ℕ) (c : Cursor) (ps : List Piece) → (run w c ps .lines ≡ c .lines + brokenPlaces ps) × (run w c ps .tests ≡ c .tests + testsIn ps)
+unfolding run brokenPlaces testsIn
+run-lines-tests w c [] = (sym (add-zero (c .lines)), sym (add-zero (c .tests)))
+run-lines-tests w c (textᵖ s ∷ ps) = run-lines-tests w (after w c (textᵖ s)) ps
+run-lines-tests w c (blankᵖ k ∷ ps) = run-lines-tests w (after w c (blankᵖ k)) ps
+run-lines-tests w c (newlineᵖ b k ∷ ps) = let h = run-lines-tests w (after w c (newlineᵖ b k)) ps in (omega (arith, h .0), h .1)
+run-lines-tests w c (testᵖ b ∷ ps) = let h = run-lines-tests w (after w c (testᵖ b)) ps in (h .0, omega (arith, h .1))
 
 longest-least : (n : ℕ) (ps : List Piece) → n ≤ longestRow n ps
 unfolding longestRow
@@ -78,23 +55,14 @@ run-longest w c n (newlineᵖ b k ∷ ps) e h =
     let r = run-longest w (after w c (newlineᵖ b k)) k ps (omega arith) (omega arith) in let g = longest-least k ps in omega arith
 run-longest w c n (testᵖ b ∷ ps) e h = run-longest w (after w c (testᵖ b)) n ps e h
 
--- the part of the area that was written
-pub written : (l s : List ℕ) → length s ≤ length l → take (length s) (paint l 0 s) ≡ s
-unfolding paint
-written [] [] h = refl
-written [] (y ∷ s) h = absurd (omega arith)
-written (x ∷ l) [] h = refl
-written (x ∷ l) (y ∷ s) h = ap (λ (t : List ℕ). y ∷ t) (written l s (omega arith))
-
 -- ---- `report`
 
 module _ (v : Cursor) (count total : ℕ) (l : List ℕ) where
   pub reported-short : length l < v .position → Listing ≡ reported v count total l
   reported-short h = sym (rw (lt-ltb (length l) (v .position) h))
 
-  pub reported-done : (n m : ℕ) → v .position ≤ length l → n ≡ countOf 10 (take (v .position) l) → m ≡ n + 1
-      → Done (record { rows = count; text = total; length = v .position; lines = m; longest = v .longest; tests = v .tests }) ≡ reported v count total l
-  reported-done n m h e f = sym (rw (le-ltb (length l) (v .position) h, ← e, ← f))
+  pub reported-done : v .position ≤ length l → Done (counted v count total) ≡ reported v count total l
+  reported-done h = sym (rw (le-ltb (length l) (v .position) h))
 
 -- ---- `layout_accepted`
 
@@ -119,7 +87,7 @@ module _ (rows : List ℕ) (count : ℕ) (texts : List ℕ) (total width : ℕ) 
         position-room = omega arith;
         nest-room = omega arith;
         next-room = omega arith;
-        test-room = omega arith;
+        count-room = omega arith;
       }
 
   pub whole-emitted : (v : Cursor) (l l′ : List ℕ) → LaidOut rows texts (count - 1) width 0 false 0 (start width) v l l′
@@ -135,28 +103,20 @@ module _ (width : ℕ) (ps : List Piece) (v : Cursor) (l l′ : List ℕ) (emitt
   length-is : length l′ ≡ length l
   length-is = ap length (emitted .bytes) ∙ length-paint l 0 (bytesOf ps)
 
-  abbrev full : Laid
-  full = Done (countsOf count total ps)
-
-  counts-are : length (bytesOf ps) ≤ length l → Done (counted v count total (take (v .position) l′)) ≡ full
-  counts-are s =
+  counts-are : counted v count total ≡ countsOf count total ps
+  counts-are =
+      let k = run-lines-tests width (start width) ps in
       let a = position-is in
-      let b : take (v .position) l′ ≡ bytesOf ps = ap₂ take a (emitted .bytes) ∙ written l (bytesOf ps) s in
+      let n : v .lines ≡ lines ps = ap (λ (x : Cursor). x .lines) (emitted .cursor) ∙ k .0 ∙ omega arith in
       let o : v .longest ≡ longestRow 0 ps =
       ap (λ (x : Cursor). x .longest) (emitted .cursor) ∙ run-longest width (start width) 0 ps (omega arith) (omega arith) ∙ omega arith in
-      let t : v .tests ≡ testsIn ps = ap (λ (x : Cursor). x .tests) (emitted .cursor) ∙ run-tests width (start width) ps ∙ zero-add (testsIn ps) in
-      let g : lines (take (v .position) l′) ≡ lines (bytesOf ps) = ap lines b in
-      rw (g, o, t, a)
+      let t : v .tests ≡ testsIn ps = ap (λ (x : Cursor). x .tests) (emitted .cursor) ∙ k .1 ∙ zero-add (testsIn ps) in
+      rw (n, o, t, a)
 
-  answer-is : reported v count total l′ ≡ cond (ltb (length l) (length (bytesOf ps))) Listing full
+  answer-is : reported v count total l′ ≡ cond (ltb (length l) (length (bytesOf ps))) Listing (Done (countsOf count total ps))
   answer-is =
-      ap₂ (λ (x y : ℕ). cond (ltb x y) Listing (Done (counted v count total (take (v .position) l′)))) length-is position-is
-      ∙ by (ltb (length l) (length (bytesOf ps))) refl
-    where
-      by : (b : Bool) → ltb (length l) (length (bytesOf ps)) ≡ b
-          → cond b Listing (Done (counted v count total (take (v .position) l′))) ≡ cond b Listing full
-      by true e = refl
-      by false e = counts-are (ltb-false _ _ e)
+      ap₂ (λ (x y : ℕ). cond (ltb x y) Listing (Done (counted v count total))) length-is position-is
+      ∙ ap (λ (x : Counts). cond (ltb (length l) (length (bytesOf ps))) Listing (Done x)) counts-are
 
   pub reported-listed : (a : Laid) → a ≡ reported v count total l′ → record { answer = a; listing = l′ } ≡ listed count total ps l
   unfolding listed

@@ -48,17 +48,18 @@ module _ {rows texts : List ℕ} {r w n next : ℕ} {c : Cursor} (room : Room ro
   valid = room .given .valid
 
   laid-piece : (flat : Bool) (p : Piece) (v : Cursor) (l l′ : List ℕ) → Emitted w p c v l l′ → Steady w (after w c p) → after w c
-      p .position ≤ c .position + 8589934592 → after w c p .tests ≡ c .tests
+      p .position ≤ c .position + 8589934592 → after w c p .lines + after w c p .tests ≤ c .lines + c .tests + 1
       → word rows r 3 ≡ 1 → ((f : ℕ) → r < f → layout w (docAt rows texts f r) n flat next c ≡ p ∷ []) → LaidOut rows texts r w n flat next c v l l′
   laid-piece flat p v l l′ a s b t o g =
       let at = ap (λ (x : Cursor). x .position) (a .cursor) in
       let end = ap (λ (x : Cursor). x .end) (a .cursor) in
+      let lines = ap (λ (x : Cursor). x .lines) (a .cursor) in
       let tests = ap (λ (x : Cursor). x .tests) (a .cursor) in
       record {
         laid = λ f h. subst (λ (ps : List Piece). Emitteds w ps c v l l′) (sym (g f h)) (emitted-one w p c v l l′ a);
         steady = omega arith;
         position-bound = omega arith;
-        test-bound = omega arith;
+        count-bound = omega arith;
       }
 
   pub row-inside : r * 7 + 7 ≤ length rows
@@ -88,7 +89,7 @@ module _ {rows texts : List ℕ} {r w n next : ℕ} {c : Cursor} (room : Room ro
       let st = room .steady in
       let z = text-small e in
       let t = length-take (word rows r 2) (drop (word rows r 1) texts) in
-      laid-piece flat (textᵖ s) v l l′ a (omega arith) (omega arith) refl (kept rows total count valid r (room .below) 0 e .measures .count)
+      laid-piece flat (textᵖ s) v l l′ a (omega arith) (omega arith) (omega arith) (kept rows total count valid r (room .below) 0 e .measures .count)
       (doc-kind rows texts r 0 e (λ d. layout w d n flat next c ≡ textᵖ s ∷ []) (λ f h. refl))
 
   -- ---- breaks
@@ -99,18 +100,19 @@ module _ {rows texts : List ℕ} {r w n next : ℕ} {c : Cursor} (room : Room ro
       let p = room .position-room in
       let q = room .nest-room in
       let o = room .given .narrow in
-      record { row = row-inside; steady = room .steady; blank = omega arith; newline = omega arith }
+      let m = room .count-room in
+      record { row = row-inside; steady = room .steady; blank = omega arith; newline = omega arith; line = omega arith }
 
   pub laid-break : (flat : Bool) (v : Cursor) (l l′ : List ℕ) → word rows r 0 ≡ 2 → Emitted w (placed flat (word rows r 1) n) c v l l′ → LaidOut rows texts r w n flat next c v l l′
   unfolding node layout
   laid-break true v l l′ e a =
       let st = room .steady in
       let z = blank-small rows total count valid r (room .below) e in
-      laid-piece true (blankᵖ (word rows r 1)) v l l′ a (omega arith) (omega arith) refl (kept rows total count valid r (room .below) 2 e .measures .count)
+      laid-piece true (blankᵖ (word rows r 1)) v l l′ a (omega arith) (omega arith) (omega arith) (kept rows total count valid r (room .below) 2 e .measures .count)
       (doc-kind rows texts r 2 e (λ d. layout w d n true next c ≡ blankᵖ (word rows r 1) ∷ []) (λ f h. refl))
   laid-break false v l l′ e a =
       let q = room .nest-room in
-      laid-piece false (newlineᵖ (word rows r 1) n) v l l′ a (omega arith) (omega arith) refl (kept rows total count valid r (room .below) 2 e .measures .count)
+      laid-piece false (newlineᵖ (word rows r 1) n) v l l′ a (omega arith) (omega arith) (omega arith) (kept rows total count valid r (room .below) 2 e .measures .count)
       (doc-kind rows texts r 2 e (λ d. layout w d n false next c ≡ newlineᵖ (word rows r 1) n ∷ []) (λ f h. refl))
 
   -- ---- joins
@@ -132,7 +134,7 @@ module _ {rows texts : List ℕ} {r w n next : ℕ} {c : Cursor} (room : Room ro
       let p = room .position-room in
       let q = room .nest-room in
       let u = room .next-room in
-      let t = room .test-room in
+      let t = room .count-room in
       record {
         total = total;
         count = count;
@@ -142,7 +144,7 @@ module _ {rows texts : List ℕ} {r w n next : ℕ} {c : Cursor} (room : Room ro
         position-room = omega arith;
         nest-room = omega arith;
         next-room = omega arith;
-        test-room = omega arith;
+        count-room = omega arith;
       }
 
   pub room-left : (i past : ℕ) → word rows r 0 ≡ 1 → i ≡ leftOf rows r → past < next + 4294967296 → Room rows texts i w n past c
@@ -156,9 +158,9 @@ module _ {rows texts : List ℕ} {r w n next : ℕ} {c : Cursor} (room : Room ro
       let p = room .position-room in
       let q = room .nest-room in
       let u = room .next-room in
-      let t = room .test-room in
+      let t = room .count-room in
       let pb = a .position-bound in
-      let tb = a .test-bound in
+      let tb = a .count-bound in
       record {
         total = total;
         count = count;
@@ -168,7 +170,7 @@ module _ {rows texts : List ℕ} {r w n next : ℕ} {c : Cursor} (room : Room ro
         position-room = omega arith;
         nest-room = omega arith;
         next-room = omega arith;
-        test-room = omega arith;
+        count-room = omega arith;
       }
 
   pub laid-join : (flat : Bool) (past : ℕ) (m v : Cursor) (l k l′ : List ℕ) → word rows r 0 ≡ 1 → past ≡ through (word rows (r - 1) 6) (word rows (r - 1) 5) next
@@ -179,9 +181,9 @@ module _ {rows texts : List ℕ} {r w n next : ℕ} {c : Cursor} (room : Room ro
       let x = join-count rows total count valid r (room .below) e in
       let rb = room .below in
       let ab = a .position-bound in
-      let tb = a .test-bound in
+      let tb = a .count-bound in
       let ab2 = b .position-bound in
-      let tb2 = b .test-bound in
+      let tb2 = b .count-bound in
       record {
         laid =
             doc-kind rows texts r 1 e (λ d. Emitteds w (layout w d n flat next c) c v l l′)
@@ -197,7 +199,7 @@ module _ {rows texts : List ℕ} {r w n next : ℕ} {c : Cursor} (room : Room ro
             emitted-append w _ _ c m v l k l′ one two);
         steady = b .steady;
         position-bound = omega arith;
-        test-bound = omega arith;
+        count-bound = omega arith;
       }
 
   -- ---- nests and groups, over their child
@@ -206,7 +208,7 @@ module _ {rows texts : List ℕ} {r w n next : ℕ} {c : Cursor} (room : Room ro
     pub child-below : 0 < r
     child-below = has-child rows total count valid r (room .below) kind e
 
-    room-under : (n′ : ℕ) (c′ : Cursor) → n′ ≤ n + 64 → c′ .position ≡ c .position → c′ .end ≡ c .end → c′ .tests ≤ c .tests + 1 → Room rows texts
+    room-under : (n′ : ℕ) (c′ : Cursor) → n′ ≤ n + 64 → c′ .position ≡ c .position → c′ .end ≡ c .end → c′ .lines + c′ .tests ≤ c .lines + c .tests + 1 → Room rows texts
         (r - 1) w n′ next c′
     room-under n′ c′ hn hp he ht =
         let o = child-below in
@@ -216,7 +218,7 @@ module _ {rows texts : List ℕ} {r w n next : ℕ} {c : Cursor} (room : Room ro
         let p = room .position-room in
         let q = room .nest-room in
         let u = room .next-room in
-        let t = room .test-room in
+        let t = room .count-room in
         record {
           total = total;
           count = count;
@@ -226,10 +228,10 @@ module _ {rows texts : List ℕ} {r w n next : ℕ} {c : Cursor} (room : Room ro
           position-room = omega arith;
           nest-room = omega arith;
           next-room = omega arith;
-          test-room = omega arith;
+          count-room = omega arith;
         }
 
-    laid-under : (n′ : ℕ) (flat flat′ : Bool) (c′ v : Cursor) (l l′ : List ℕ) → c′ .position ≡ c .position → c′ .tests ≤ c .tests + 1
+    laid-under : (n′ : ℕ) (flat flat′ : Bool) (c′ v : Cursor) (l l′ : List ℕ) → c′ .position ≡ c .position → c′ .lines + c′ .tests ≤ c .lines + c .tests + 1
         → ((f : ℕ) → r < suc f → Emitteds w (layout w (docAt rows texts f (r - 1)) n′ flat′ next c′) c′ v l l′
         → Emitteds w (layout w (node rows texts (docAt rows texts f) r (suc (suc (suc kind)))) n flat next c) c v l l′)
         → LaidOut rows texts (r - 1) w n′ flat′ next c′ v l l′ → LaidOut rows texts r w n flat next c v l l′
@@ -237,14 +239,14 @@ module _ {rows texts : List ℕ} {r w n next : ℕ} {c : Cursor} (room : Room ro
         let o = child-below in
         let k = wrapped-count rows total count valid r (room .below) kind e in
         let pb = a .position-bound in
-        let tb = a .test-bound in
+        let tb = a .count-bound in
         record {
           laid =
               doc-kind rows texts r (suc (suc (suc kind))) e (λ d. Emitteds w (layout w d n flat next c) c v l l′)
               (λ f h. g f h (a .laid f (omega arith)));
           steady = a .steady;
           position-bound = omega arith;
-          test-bound = omega arith;
+          count-bound = omega arith;
         }
 
   pub room-nest : (i : ℕ) → word rows r 0 ≡ 3 → i ≡ word rows r 1 → Room rows texts (r - 1) w (n + i) next c

@@ -98,3 +98,11 @@ paint-whole [] [] h = refl
 paint-whole [] (y ∷ s) h = absurd (omega arith)
 paint-whole (x ∷ l) [] h = refl
 paint-whole (x ∷ l) (y ∷ s) h = ap (λ (t : List ℕ). y ∷ t) (paint-whole l s (omega arith))
+
+-- the part of the area that was written
+pub written : (l s : List ℕ) → length s ≤ length l → take (length s) (paint l 0 s) ≡ s
+unfolding paint
+written [] [] h = refl
+written [] (y ∷ s) h = absurd (omega arith)
+written (x ∷ l) [] h = refl
+written (x ∷ l) (y ∷ s) h = ap (λ (t : List ℕ). y ∷ t) (written l s (omega arith))

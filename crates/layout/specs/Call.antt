@@ -41,14 +41,14 @@ pub record Outcome : Type 0 where
 unfoldable pub untouched : Laid → List ℕ → Outcome
 untouched answer area = record { answer = answer; listing = area }
 
--- "document rows, text bytes, listing length, lines (bytes of value 10 in the listing, plus 1), longest row, and fit tests"
+-- "document rows, text bytes, listing length, lines .., longest row, and fit tests"
 abbrev pub countsOf : ℕ → ℕ → List Piece → Counts
 countsOf rows text ps =
     record {
       rows = rows;
       text = text;
       length = length (bytesOf ps);
-      lines = lines (bytesOf ps);
+      lines = lines ps;
       longest = longestRow 0 ps;
       tests = testsIn ps;
     }

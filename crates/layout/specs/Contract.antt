@@ -14,7 +14,7 @@ use Rattle.layout.specs.declared.Laid.the-variants as laids
 use Rattle.layout.specs.declared.Admission.{Admission}
 use Rattle.layout.specs.declared.Admission.the-variants.{Admitted, Document, Width}
 use Rattle.layout.specs.Layout.{Piece, after, run, layout}
-use Rattle.layout.specs.Listing.{pieceBytes, bytesOf, lines}
+use Rattle.layout.specs.Listing.{pieceBytes, bytesOf}
 use Rattle.layout.specs.Paint.{paint}
 
 -- the row that holds the cursor starts at end - width, which is not after the cursor
@@ -38,6 +38,7 @@ pub record BreakRoom (rows : List ℕ) (r width nest : ℕ) (c : Cursor) : Type 
   pub steady : Steady width c
   pub blank : c .position + word rows r 1 + width < 18446744073709551616
   pub newline : c .position + 1 + nest + width < 18446744073709551616
+  pub line : c .lines + 1 < 18446744073709551616
 
 -- the distance from the end of the left child of the join at row r to the next break, where it is `next` at the join's end
 abbrev pub nextOfLeft : List ℕ → ℕ → ℕ → ℕ
@@ -62,7 +63,8 @@ pub record Given (rows texts : List ℕ) (width total count : ℕ) : Type 0 wher
   pub small : total ≤ 65536
   pub narrow : width ≤ 65535
 
--- row r is one of them, and the numbers stay far from the limits of the machine however the rows of its subtree are laid out
+-- row r is one of them, and the numbers stay far from the limits of the machine however the rows of its subtree are laid out: each of them
+-- adds a line or a fit test at most
 pub record Room (rows texts : List ℕ) (r width nest next : ℕ) (c : Cursor) : Type 0 where
   pub total : ℕ
   pub count : ℕ
@@ -72,7 +74,7 @@ pub record Room (rows texts : List ℕ) (r width nest next : ℕ) (c : Cursor) :
   pub position-room : c .position + word rows r 3 * 8589934592 ≤ 1152921504606846976
   pub nest-room : nest + word rows r 3 * 64 ≤ 2097152
   pub next-room : next + word rows r 3 * 4294967296 ≤ 1152921504606846976
-  pub test-room : c .tests + word rows r 3 ≤ 1152921504606846976
+  pub count-room : c .lines + c .tests + word rows r 3 ≤ 1152921504606846976
 
 -- the subtree of row r is laid out
 pub record LaidOut
@@ -81,7 +83,7 @@ pub record LaidOut
       (bound : ℕ) → r < bound → Emitteds width (layout width (docAt rows texts bound r) nest flat next c) c v l l′
   pub steady : Steady width v
   pub position-bound : v .position ≤ c .position + word rows r 3 * 8589934592
-  pub test-bound : v .tests ≤ c .tests + word rows r 3
+  pub count-bound : v .lines + v .tests ≤ c .lines + c .tests + word rows r 3
 
 -- 9, then 6, as in `outcome`: what comes before a row is laid out
 unfoldable pub admission : List ℕ → ℕ → List ℕ → ℕ → ℕ → Admission
@@ -91,12 +93,12 @@ admission rows count texts total width =
     (cond (ltb 65535 width) Width Admitted))
     (Document 0)
 
--- the counts from the last cursor, with the lines of what was listed
-abbrev pub counted : Cursor → ℕ → ℕ → List ℕ → Counts
-counted v count total s =
-    record { rows = count; text = total; length = v .position; lines = lines s; longest = v .longest; tests = v .tests }
+-- the counts from the last cursor
+abbrev pub counted : Cursor → ℕ → ℕ → Counts
+counted v count total =
+    record { rows = count; text = total; length = v .position; lines = v .lines; longest = v .longest; tests = v .tests }
 
--- the answer from the last cursor and the listing area it has left
+-- the answer from the last cursor and the listing area
 abbrev pub reported : Cursor → ℕ → ℕ → List ℕ → Laid
 reported v count total l =
-    cond (ltb (length l) (v .position)) laids.Listing (laids.Done (counted v count total (take (v .position) l)))
+    cond (ltb (length l) (v .position)) laids.Listing (laids.Done (counted v count total))

@@ -19,11 +19,17 @@ pub data Piece : Type 0 where
 -- "Position is the number of bytes emitted so far." The cursor at a new position in the same row, which starts at end - width
 abbrev pub moved : ℕ → Cursor → ℕ → Cursor
 moved width c position =
-    record { position = position; end = c .end; longest = max (c .longest) (position + width - c .end); tests = c .tests }
+    record {
+      position = position;
+      end = c .end;
+      lines = c .lines;
+      longest = max (c .longest) (position + width - c .end);
+      tests = c .tests;
+    }
 
 -- one fit test more
 abbrev pub tested : Cursor → Cursor
-tested c = record { position = c .position; end = c .end; longest = c .longest; tests = c .tests + 1 }
+tested c = record { position = c .position; end = c .end; lines = c .lines; longest = c .longest; tests = c .tests + 1 }
 
 -- the cursor after a piece: "An unbroken place (in a flat group) emits its blank, a broken one a newline, sets the row's end to
 -- position + width, and then emits the nest in spaces."
@@ -32,7 +38,7 @@ after width c (textᵖ s) = moved width c (c .position + length s)
 after width c (blankᵖ blank) = moved width c (c .position + blank)
 after width c (newlineᵖ blank n) =
     moved width
-    (record { position = c .position + 1; end = c .position + 1 + width; longest = c .longest; tests = c .tests })
+    (record { position = c .position + 1; end = c .position + 1 + width; lines = c .lines + 1; longest = c .longest; tests = c .tests })
     (c .position + 1 + n)
 after width c (testᵖ f) = tested c
 
@@ -68,7 +74,7 @@ layout width (group d) n false next c =
 
 -- "the row's end (the width at first)"
 abbrev pub start : ℕ → Cursor
-start width = record { position = 0; end = width; longest = 0; tests = 0 }
+start width = record { position = 0; end = width; lines = 1; longest = 0; tests = 0 }
 
 -- the pieces of a whole document
 unfoldable pub pieces : ℕ → Doc → List Piece

@@ -1,9 +1,7 @@
 -- The listing of some pieces, and what is reported of it (document 01, "Document and layout").
 use Prim.Native.Nat.{ℕ, _+_, max}
-use mathlib.Core.Bool.{cond}
 use mathlib.Core.List.{List, [], _∷_, _++_}
 use lib.ListN.{length, replicate}
-use lib.Dec.{eqb}
 use Rattle.layout.specs.Layout.{Piece, textᵖ, blankᵖ, newlineᵖ, testᵖ}
 
 -- "A text is emitted. .. An unbroken place .. emits its blank, a broken one a newline, .. and then .. the nest in spaces"
@@ -17,14 +15,17 @@ unfoldable pub bytesOf : List Piece → List ℕ
 bytesOf [] = []
 bytesOf (p ∷ ps) = pieceBytes p ++ bytesOf ps
 
--- how many elements are b
-unfoldable pub countOf : ℕ → List ℕ → ℕ
-countOf b [] = 0
-countOf b (x ∷ l) = cond (eqb x b) 1 0 + countOf b l
+-- the broken places among some pieces
+unfoldable pub brokenPlaces : List Piece → ℕ
+brokenPlaces [] = 0
+brokenPlaces (textᵖ s ∷ ps) = brokenPlaces ps
+brokenPlaces (blankᵖ blank ∷ ps) = brokenPlaces ps
+brokenPlaces (newlineᵖ blank n ∷ ps) = 1 + brokenPlaces ps
+brokenPlaces (testᵖ f ∷ ps) = brokenPlaces ps
 
--- "lines (bytes of value 10 in the listing, plus 1)"
-abbrev pub lines : List ℕ → ℕ
-lines l = countOf 10 l + 1
+-- "The lines figure becomes broken places plus 1" (document 02, P4)
+abbrev pub lines : List Piece → ℕ
+lines ps = brokenPlaces ps + 1
 
 -- "longest row": "Rows are what lies between the newlines of broken places, indentation included". The longest of the rows of the
 -- pieces, where the first row has n bytes already

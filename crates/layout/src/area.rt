@@ -1,10 +1,6 @@
 // Bytes put into an area: as many as fit, and none past what is written.
 ghost use mathlib.Core.Path.{_≡_};
-ghost use mathlib.Core.Bool.{cond};
-ghost use Prim.Native.Nat.{_<_, _≤_};
-ghost use lib.Dec.{eqb};
 ghost use lib.ListN.{replicate};
-ghost use Rattle.layout.specs.Listing.{countOf};
 ghost use Rattle.layout.specs.Paint.{paint};
 ghost use Rattle.basics.specs.Lent.{was, left};
 
@@ -45,23 +41,4 @@ pub fn fill_at(area: &mut [u8], position: usize, n: usize, b: u8)
     if position < area.len() {
         fill(&mut area[position..], n, b);
     }
-}
-
-fn one_if_same(a: u8, b: u8) -> usize
-    ensures { λ v. ⌜ (v ≡ cond (eqb a b) 1 0) × (v ≤ 1) ⌝ }
-{
-    if a == b { 1 } else { 0 }
-}
-
-// How many bytes are b.
-pub fn count_of(bytes: &[u8], b: u8) -> usize
-    ensures { λ v. ⌜ (v ≡ countOf b (was bytes)) × (v < 9223372036854775808) ⌝ }
-{
-    let mut n: usize = 0;
-    let mut i: usize = 0;
-    while i < bytes.len() {
-        n = n + one_if_same(bytes[i], b);
-        i += 1;
-    }
-    n
 }

@@ -10,10 +10,12 @@ ghost use Rattle.layout.specs.Contract.{Steady};
 ghost use Rattle.basics.specs.Lent.{was};
 ghost use Rattle.layout.specs.Frames.{Emits};
 
-// The bytes emitted so far, where the row ends, the longest row so far, and the fit tests so far.
+// The bytes emitted so far, where the row ends, the lines so far (that of the cursor among them), the longest row so far, and the fit tests
+// so far.
 pub struct Cursor {
     pub position: usize,
     pub end: usize,
+    pub lines: usize,
     pub longest: usize,
     pub tests: usize,
 }
@@ -25,6 +27,7 @@ pub fn start(width: usize) -> Cursor
     Cursor {
         position: 0,
         end: width,
+        lines: 1,
         longest: 0,
         tests: 0,
     }
@@ -45,6 +48,7 @@ impl Cursor {
         Cursor {
             position,
             end: self.end,
+            lines: self.lines,
             longest: larger(self.longest, position + width - self.end),
             tests: self.tests,
         }
@@ -69,9 +73,9 @@ impl Cursor {
         self.moved(width, position + size)
     }
 
-    // The row's end is set after the newline and before the nest's spaces.
+    // A broken place, which begins a line. The row's end is set after the newline and before the nest's spaces.
     pub fn newline(self, width: usize, listing: &mut [u8], nest: usize) -> Cursor
-        requires { ⌜ self .position + 1 + nest + width < 18446744073709551616 ⌝ }
+        requires { ⌜ (self .position + 1 + nest + width < 18446744073709551616) × (self .lines + 1 < 18446744073709551616) ⌝ }
         ensures { λ v. ⌜ Emits listing width (newlineᵖ 0 nest) self v ⌝ }
     {
         let position = self.position;
@@ -82,6 +86,7 @@ impl Cursor {
         let row = Cursor {
             position: next,
             end: next + width,
+            lines: self.lines + 1,
             longest: self.longest,
             tests: self.tests,
         };
@@ -96,6 +101,7 @@ impl Cursor {
         Cursor {
             position: self.position,
             end: self.end,
+            lines: self.lines,
             longest: self.longest,
             tests: self.tests + 1,
         }

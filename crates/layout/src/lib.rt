@@ -67,12 +67,11 @@ pub fn report(last: Cursor, count: usize, total: usize, listing: &[u8]) -> Laid
     if listing.len() < length {
         return Laid::Listing;
     }
-    let lines = area::count_of(&listing[..length], 10) + 1;
     let counts = Counts {
         rows: count,
         text: total,
         length,
-        lines,
+        lines: last.lines,
         longest: last.longest,
         tests: last.tests,
     };

@@ -42,7 +42,7 @@ pub record Taking (rows texts : List ℕ) (count w : ℕ) (l0 : List ℕ) (es : 
   pub few : weight rows es ≤ count
   pub steady : Steady w c
   pub position-room : c .position + weight rows es * 8589934592 ≤ 1152921504606846976
-  pub test-room : c .tests + weight rows es ≤ 1152921504606846976
+  pub count-room : c .lines + c .tests + weight rows es ≤ 1152921504606846976
   pub same : length l ≡ length l0
   pub back : (v : Cursor) (l′ : List ℕ) → Emitteds w (remaining w rows texts count es c) c v l l′
       → Emitteds w (pieces w (docOf rows count texts)) (start w) v l0 l′
@@ -84,7 +84,7 @@ module _ {rows texts : List ℕ} {count w : ℕ} {l0 : List ℕ} {e : Entry} {es
       let n = g .given .few in
       let f = g .few in
       let p = g .position-room in
-      let t = g .test-room in
+      let t = g .count-room in
       let h = head in
       let i = h .nest-room in
       let j = h .next-room in
@@ -97,7 +97,7 @@ module _ {rows texts : List ℕ} {count w : ℕ} {l0 : List ℕ} {e : Entry} {es
         position-room = omega arith;
         nest-room = i;
         next-room = omega arith;
-        test-room = omega arith;
+        count-room = omega arith;
       }
 
   pub taken-less : weight rows es < weight rows (e ∷ es)
@@ -113,9 +113,9 @@ module _ {rows texts : List ℕ} {count w : ℕ} {l0 : List ℕ} {e : Entry} {es
       let x = weight-is in
       let f = g .few in
       let p = g .position-room in
-      let t = g .test-room in
+      let t = g .count-room in
       let pb = a .position-bound in
-      let tb = a .test-bound in
+      let tb = a .count-bound in
       let b : Emitteds w (piecesOf w (docAt rows texts count (e .row)) e c) c m l k = a .laid count (head .below) in
       record {
         total = total;
@@ -124,7 +124,7 @@ module _ {rows texts : List ℕ} {count w : ℕ} {l0 : List ℕ} {e : Entry} {es
         few = omega arith;
         steady = a .steady;
         position-room = omega arith;
-        test-room = omega arith;
+        count-room = omega arith;
         same = s ∙ g .same;
         back = λ v l′ r.
             g .back v l′
@@ -134,14 +134,14 @@ module _ {rows texts : List ℕ} {count w : ℕ} {l0 : List ℕ} {e : Entry} {es
 
   -- others take its place
   module _ (es′ : List Entry) (c′ : Cursor) (within′ : AllWithin rows count es′) (less : weight rows es′ < weight rows (e ∷ es)) where
-    instead : c′ .position ≡ c .position → c′ .end ≡ c .end → c′ .tests ≤ c .tests + 1
+    instead : c′ .position ≡ c .position → c′ .end ≡ c .end → c′ .lines + c′ .tests ≤ c .lines + c .tests + 1
         → ((v : Cursor) (l′ : List ℕ) → Emitteds w (remaining w rows texts count es′ c′) c′ v l l′ → Emitteds w (remaining w rows texts count (e ∷ es) c) c v l l′)
         → Taking rows texts count w l0 es′ c′ l
     instead hp he ht step =
         let f = g .few in
         let s = g .steady in
         let p = g .position-room in
-        let t = g .test-room in
+        let t = g .count-room in
         record {
           total = total;
           given = g .given;
@@ -149,7 +149,7 @@ module _ {rows texts : List ℕ} {count w : ℕ} {l0 : List ℕ} {e : Entry} {es
           few = omega arith;
           steady = omega arith;
           position-room = omega arith;
-          test-room = omega arith;
+          count-room = omega arith;
           same = g .same;
           back = λ v l′ r. g .back v l′ (step v l′ r);
         }

@@ -48,7 +48,7 @@ module _ {rows texts : List ℕ} {count w : ℕ} {p0 : List ℕ} (lends : Lends 
         few = omega arith;
         steady = omega arith;
         position-room = omega arith;
-        test-room = omega arith;
+        count-room = omega arith;
         same = refl;
         back = λ v l′ a. subst (λ (ps : List Piece). Emitteds w ps (start w) v l l′) (append-nil _) a;
       }

@@ -11,7 +11,7 @@ use Rattle.document.specs.Stored.{stored, Fine}
 use Rattle.document.proofs.ReadBack.{stored-reads-back, stored-accepted}
 use Rattle.layout.specs.declared.cursor.Cursor.{Cursor}
 use Rattle.layout.specs.Layout.{Piece, textᵖ, blankᵖ, newlineᵖ, testᵖ, after, run, fits, layout, start, pieces}
-use Rattle.layout.specs.Listing.{bytesOf, longestRow}
+use Rattle.layout.specs.Listing.{bytesOf, brokenPlaces, lines, longestRow}
 use Rattle.layout.specs.Paint.{paint}
 use Rattle.layout.specs.Call.{listed, outcome}
 use Rattle.third_property.specs.Claims.{putBack, restored, inOrder, Row, rowsFrom, rowsIn, joined, Within}
@@ -170,6 +170,18 @@ longest-from row held (testᵖ b ∷ ps) = longest-from row held ps
 -- the longest row is the largest of the rows
 pub longest-is-largest : (ps : List Piece) → longestRow 0 ps ≡ largest (rowsIn ps)
 longest-is-largest ps = longest-from [] false ps
+
+lines-from : (row : List ℕ) (held : Bool) (ps : List Piece) → lines ps ≡ length (rowsFrom row held ps)
+unfolding brokenPlaces rowsFrom
+lines-from row held [] = refl
+lines-from row held (textᵖ s ∷ ps) = lines-from (row ++ s) held ps
+lines-from row held (blankᵖ k ∷ ps) = lines-from (row ++ replicate k 32) true ps
+lines-from row held (newlineᵖ b k ∷ ps) = let h = lines-from (replicate k 32) false ps in omega arith
+lines-from row held (testᵖ b ∷ ps) = lines-from row held ps
+
+-- the lines are as many as the rows, whatever newlines the texts have
+pub lines-are-rows : (ps : List Piece) → lines ps ≡ length (rowsIn ps)
+lines-are-rows ps = lines-from [] false ps
 
 -- the first bytes of a listing, as many as fit, and past them the area as it was
 pub painted-area : (l s : List ℕ) → paint l 0 s ≡ take (length l) s ++ drop (length s) l

@@ -41,7 +41,7 @@ use Rattle.third_property.specs.ThirdProperty.{SameCounts, EndAlike, ref
 use Rattle.third_property.specs.ThirdProperty.{SameDocument, PutBack, metIn, StartsRows, HoldsWidth, OneRun, TwoRuns, ThirdProperty}
 use Rattle.third_property.specs.Claims.{rowsIn, Within}
 use Rattle.third_property.specs.Places.{piecesOf, failed, breakPlaces}
-use Rattle.layout.proofs.Answers.{written}
+use Rattle.layout.proofs.Painting.{written}
 use Rattle.basics.proofs.Booleans.{true-false}
 use Rattle.pool_check.proofs.Acceptance.{accepted-is}
 use Rattle.third_property.proofs.WalkLaws.{Near, plain-like, walks-near}

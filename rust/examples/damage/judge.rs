@@ -49,14 +49,16 @@ pub fn out(number: u32, out: &Guarded<u64>) -> Result<(), String> {
     need(matches!(number, 3 | 4 | 7 | 8 | 9 | 20 | 21) || seen[1] == 0, "a place where the number has none")
 }
 
-/// Counts that a listing shows itself.
-pub fn listed(counts: &[u64], listing: &[u8]) -> Result<(), String> {
+/// Counts that a listing and the texts of its document show.
+pub fn listed(counts: &[u64], listing: &[u8], text: &[u8]) -> Result<(), String> {
     let length = counts[4] as usize;
     need(length <= listing.len(), "a listing longer than its area is no success")?;
-    let lines = 1 + listing[..length].iter().filter(|&&b| b == b'\n').count() as u64;
-    need(counts[5] == lines, "lines are not the newlines plus 1")?;
-    need(counts[6] <= counts[4], "the longest row is longer than the listing")?;
-    need((1..=16_384).contains(&counts[2]) && counts[3] <= 65_536, "the document is past its limits")
+    need((1..=16_384).contains(&counts[2]) && counts[3] <= 65_536, "the document is past its limits")?;
+    // each text is listed once: the newlines that no text has are those of broken places
+    let newlines = |bytes: &[u8]| bytes.iter().filter(|&&b| b == b'\n').count() as u64;
+    let in_texts = newlines(&text[..counts[3] as usize]);
+    need(counts[5] + in_texts == newlines(&listing[..length]) + 1, "lines are not the broken places plus 1")?;
+    need(counts[6] <= counts[4], "the longest row is longer than the listing")
 }
 
 /// The areas after a print that ended so; the counts of a success are in `counts`.
@@ -64,7 +66,7 @@ pub fn print_areas(number: u32, counts: &[u64], areas: &Areas) -> Result<(), Str
     need(areas.rows.intact() && areas.text.intact() && areas.listing.intact(), "a guard was written")?;
     match number {
         0 => {
-            listed(counts, areas.listing.seen())?;
+            listed(counts, areas.listing.seen(), areas.text.seen())?;
             need(areas.listing.untouched_from(counts[4] as usize), "the listing area was written past the listing")?;
             need(areas.rows.is_from(7 * counts[2] as usize, 0), "the row area is not zero past the document")?;
             need(areas.text.is_from(counts[3] as usize, 0), "the text area is not zero past the document")

@@ -207,7 +207,7 @@ fn layout_call(stock: &Stock, r: &mut Random, tally: &mut Tally) -> Result<(), S
     match number {
         6 | 9 => need(listing.untouched_from(0), "layout: 6 or 9 wrote the listing area"),
         0 if out.seen().len() >= 8 => {
-            judge::listed(out.seen(), listing.seen())?;
+            judge::listed(out.seen(), listing.seen(), &text)?;
             need(listing.untouched_from(out.seen()[4] as usize), "layout: the listing area was written past the listing")
         }
         0 | 22 => Ok(()),

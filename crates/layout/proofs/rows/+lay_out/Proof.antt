@@ -221,7 +221,7 @@ lay-out-add-flat-2 t c =
 lay-out-tested-requires : (t : ℕ) → lay-out-lts.Need-tested-requires (calls t) (lay-out-at t) lay-out.Post Going-loop μ-loop
 lay-out-tested-requires t c κs =
     let at-loop = c .before .before .before .before .before .before .before .before .before in
-    let n = at-loop .loop .inv .room .test-room in omega arith
+    let n = at-loop .loop .inv .room .count-room in omega arith
 
 lay-out-sub-r-4 : (t : ℕ) → lay-out-lts.Need-sub-r-4 (calls t) (lay-out-at t) lay-out.Post Going-loop μ-loop
 lay-out-sub-r-4 t c =

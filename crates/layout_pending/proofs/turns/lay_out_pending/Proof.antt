@@ -287,7 +287,7 @@ put-requires-5 c κs =
 tested-unless-requires : tie.Need-tested-unless-requires Turning-loop μ-loop
 tested-unless-requires c κs =
     let at-loop = c .before .before .before .before .before .before .before .before .before .before .before .before .before .before in
-    let n = at-loop .loop .inv .taking .test-room in omega arith
+    let n = at-loop .loop .inv .taking .count-room in omega arith
 
 loop-less-5 : tie.Need-loop-less-5 Turning-loop μ-loop
 loop-less-5 c =

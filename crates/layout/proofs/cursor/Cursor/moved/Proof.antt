@@ -6,7 +6,7 @@ use Rattle.layout.proofs.cursor.Cursor.moved.Statement.{statement}
 use Rattle.layout.proofs.cursor.Cursor.moved.Tie as tie
 
 abbrev moved-as : Cursor → ℕ → ℕ → Cursor
-moved-as c a n = record { position = a; end = c .end; longest = n; tests = c .tests }
+moved-as c a n = record { position = a; end = c .end; lines = c .lines; longest = n; tests = c .tests }
 
 add-larger : tie.Need-add-larger
 add-larger c = search needs

@@ -23,6 +23,9 @@ fill-at-requires-2 c κs = search needs
 add-t14 : tie.Need-add-t14
 add-t14 c = search needs
 
+add-t15 : tie.Need-add-t15
+add-t15 c = search needs
+
 moved-requires : tie.Need-moved-requires
 moved-requires c κs = search needs
 
@@ -31,13 +34,13 @@ same-length c = search needs
 
 returns : tie.Need-returns
 returns c =
-    let at-fill-at = c .before .before .before .before .before .before .before in
+    let at-fill-at = c .before .before .before .before .before .before .before .before in
     let start = at-fill-at .before .before .before in
     let s = start .args in
     record {
       cursor = c .moved .ensures;
       bytes =
-          c .before .before .before .fill-at2 .ensures
+          c .before .before .before .before .fill-at2 .ensures
           ∙ ap (λ (l : List ℕ). paint l (s .self .position + 1) (replicate (s .nest) 32)) (at-fill-at .fill-at .ensures)
           ∙ paint-append (s .listing .now) (s .self .position) (10 ∷ []) (replicate (s .nest) 32);
     }
@@ -51,6 +54,7 @@ newline-spec =
     fill-at-requires
     fill-at-requires-2
     add-t14
+    add-t15
     moved-requires
     same-length
     returns)
