@@ -18,7 +18,7 @@
  *     out[2] document rows   of the success; 0 for check and for a refusal, as all below
  *     out[3] text bytes      of the document
  *     out[4] listing length  in bytes: the listing is the first so many bytes of its area
- *     out[5] lines           bytes of value 10 in the listing, plus 1
+ *     out[5] lines           broken places plus 1: a newline in a name or a literal begins none
  *     out[6] longest row     in bytes, indentation included
  *     out[7] fit tests       groups that were tested for fitting into their row
  *

@@ -21,7 +21,7 @@ pub struct Counts {
     pub document_rows: u64,
     pub text_bytes: u64,
     pub listing_length: u64,
-    /// Bytes of value 10 in the listing, plus 1.
+    /// Broken places plus 1: as many as the listing has rows, whatever newlines its texts have.
     pub lines: u64,
     /// In bytes, indentation included.
     pub longest_row: u64,
