@@ -181,13 +181,19 @@ fn the_refusal_in_words() {
 
 // ---- both layouts
 
-/// Both layouts answer alike and leave the same listing area, in one of this length; gives the answer.
+/// Both layouts answer alike and leave the same listing area, in one of this length; lines are the newlines that no text has, plus 1. Gives
+/// the answer.
 fn assert_alike(d: &Document, width: u32, listing_bytes: usize, what: &str) -> Result<Counts, Refusal> {
     let mut deep = Guarded::new(listing_bytes, 0x5c, 0xa5);
     let answer = calls::layout_deep(d.given(), width, deep.area());
     let (pending, listing) = judged(d.given(), width, 3 * d.count(), listing_bytes);
     assert_eq!(pending, answer, "{what}, width {width}");
     assert!(listing == deep.seen(), "{what}, width {width}: another listing");
+    if let Ok(counts) = answer {
+        let newlines = |bytes: &[u8]| bytes.iter().filter(|&&b| b == b'\n').count() as u64;
+        let listed = &listing[..counts.listing_length as usize];
+        assert_eq!(counts.lines + newlines(d.given().text), newlines(listed) + 1, "{what}, width {width}");
+    }
     answer
 }
 
