@@ -208,8 +208,8 @@ module _ {rows texts : List ℕ} {r w n next : ℕ} {c : Cursor} (room : Room ro
     pub child-below : 0 < r
     child-below = has-child rows total count valid r (room .below) kind e
 
-    room-under : (n′ : ℕ) (c′ : Cursor) → n′ ≤ n + 64 → c′ .position ≡ c .position → c′ .end ≡ c .end → c′ .lines + c′ .tests ≤ c .lines + c .tests + 1 → Room rows texts
-        (r - 1) w n′ next c′
+    room-under : (n′ : ℕ) (c′ : Cursor) → n′ ≤ n + 64 → c′ .position ≡ c .position → c′ .end ≡ c .end
+        → c′ .lines + c′ .tests ≤ c .lines + c .tests + 1 → Room rows texts (r - 1) w n′ next c′
     room-under n′ c′ hn hp he ht =
         let o = child-below in
         let k = wrapped-count rows total count valid r (room .below) kind e in
