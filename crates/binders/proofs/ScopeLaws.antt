@@ -22,18 +22,18 @@ use Rattle.binders.specs.Scopes.{entry, names_below, names_of, outward, place_by
 use Rattle.binders.proofs.RenameLaws.{rename_agrees, lift_adds, own_variable}
 
 -- how many names a chain puts on the stack
-pub chain_length : (p : Pool) (k : Stack) (h m : ℕ) (e : Expr) → Chained p k h m e → length (scoped k h m e) + m ≡ k.count
+pub chain_length_lem : (p : Pool) (k : Stack) (h m : ℕ) (e : Expr) → Chained p k h m e → length (scoped k h m e) + m ≡ k.count
 unfolding scoped Chained
-chain_length p k h m (var i) c = omega arith
-chain_length p k h m (sort l) c = omega arith
-chain_length p k h m (const n ls) c = omega arith
-chain_length p k h m (app f a) c = omega arith
-chain_length p k h m (pi q n s t b) c = omega (arith, chain_length p k (suc m) (suc m) b c.2)
-chain_length p k h m (lam q n s t b) c = omega (arith, chain_length p k (suc m) (suc m) b c.2)
-chain_length p k h m (letᵉ q n t v b d) c = omega arith
-chain_length p k h m (proj n i e) c = omega arith
-chain_length p k h m (nat s) c = omega arith
-chain_length p k h m (str s) c = omega arith
+chain_length_lem p k h m (var i) c = omega arith
+chain_length_lem p k h m (sort l) c = omega arith
+chain_length_lem p k h m (const n ls) c = omega arith
+chain_length_lem p k h m (app f a) c = omega arith
+chain_length_lem p k h m (pi q n s t b) c = omega (arith, chain_length_lem p k (suc m) (suc m) b c.2)
+chain_length_lem p k h m (lam q n s t b) c = omega (arith, chain_length_lem p k (suc m) (suc m) b c.2)
+chain_length_lem p k h m (letᵉ q n t v b d) c = omega arith
+chain_length_lem p k h m (proj n i e) c = omega arith
+chain_length_lem p k h m (nat s) c = omega arith
+chain_length_lem p k h m (str s) c = omega arith
 
 -- inside a binder: the renaming goes up with the scope
 pub scope-up : (k : Stack) (h m : ℕ) (ρ : ℕ → ℕ) → (entry k m).link ≡ h → m < k.count → ((i : ℕ) → place_in k h i ≡ ρ i + (k.count - m)) → (i : ℕ)
@@ -57,12 +57,12 @@ chain_is_scoped p k h m ρ (sort l) c f = refl
 chain_is_scoped p k h m ρ (const n ls) c f = refl
 chain_is_scoped p k h m ρ (app g a) c f = refl
 chain_is_scoped p k h m ρ (pi q n s t b) c f =
-    let len : length (scoped k (suc m) (suc m) b) + suc m ≡ k.count = chain_length p k (suc m) (suc m) b c.2 in
+    let len : length (scoped k (suc m) (suc m) b) + suc m ≡ k.count = chain_length_lem p k (suc m) (suc m) b c.2 in
     let rest : binders (rename (up ρ) b) ≡ scoped k (suc m) (suc m) b =
     chain_is_scoped p k (suc m) (suc m) (up ρ) b c.2 (scope-up k h m ρ c.0 (omega arith) f) in
     rw (rest, own_variable ρ b, type-is k h m (suc (length (scoped k (suc m) (suc m) b))) ρ t f (omega arith))
 chain_is_scoped p k h m ρ (lam q n s t b) c f =
-    let len : length (scoped k (suc m) (suc m) b) + suc m ≡ k.count = chain_length p k (suc m) (suc m) b c.2 in
+    let len : length (scoped k (suc m) (suc m) b) + suc m ≡ k.count = chain_length_lem p k (suc m) (suc m) b c.2 in
     let rest : binders (rename (up ρ) b) ≡ scoped k (suc m) (suc m) b =
     chain_is_scoped p k (suc m) (suc m) (up ρ) b c.2 (scope-up k h m ρ c.0 (omega arith) f) in
     rw (rest, own_variable ρ b, type-is k h m (suc (length (scoped k (suc m) (suc m) b))) ρ t f (omega arith))
@@ -79,10 +79,10 @@ body-is-scoped p k h m ρ (sort l) c f = rename_agrees ρ (place_in k h) (λ j. 
 body-is-scoped p k h m ρ (const n ls) c f = rename_agrees ρ (place_in k h) (λ j. omega (arith, f j)) (const n ls)
 body-is-scoped p k h m ρ (app g a) c f = rename_agrees ρ (place_in k h) (λ j. omega (arith, f j)) (app g a)
 body-is-scoped p k h m ρ (pi q n s t b) c f =
-    let len : length (scoped k (suc m) (suc m) b) + suc m ≡ k.count = chain_length p k (suc m) (suc m) b c.2 in
+    let len : length (scoped k (suc m) (suc m) b) + suc m ≡ k.count = chain_length_lem p k (suc m) (suc m) b c.2 in
     body-is-scoped p k (suc m) (suc m) (up ρ) b c.2 (scope-up k h m ρ c.0 (omega arith) f)
 body-is-scoped p k h m ρ (lam q n s t b) c f =
-    let len : length (scoped k (suc m) (suc m) b) + suc m ≡ k.count = chain_length p k (suc m) (suc m) b c.2 in
+    let len : length (scoped k (suc m) (suc m) b) + suc m ≡ k.count = chain_length_lem p k (suc m) (suc m) b c.2 in
     body-is-scoped p k (suc m) (suc m) (up ρ) b c.2 (scope-up k h m ρ c.0 (omega arith) f)
 body-is-scoped p k h m ρ (letᵉ q n t v b d) c f = rename_agrees ρ (place_in k h) (λ j. omega (arith, f j)) (letᵉ q n t v b d)
 body-is-scoped p k h m ρ (proj n i e) c f = rename_agrees ρ (place_in k h) (λ j. omega (arith, f j)) (proj n i e)

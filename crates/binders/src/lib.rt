@@ -1,4 +1,6 @@
 // What the printers of expressions are made of: the stack of names, variables, chains, runs and groups of binders.
+#![tactic(auto)]
+
 pub mod chain;
 pub mod group;
 pub mod leaves;

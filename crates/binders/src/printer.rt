@@ -2,7 +2,7 @@
 use pool::tables::Tables;
 
 // Where the pool's tables stand, and the indent of a nest.
-#[derive(Drop)]
+#[derive(Clone, Copy)]
 pub struct Printer {
     pub tables: Tables,
     pub indent: u32,

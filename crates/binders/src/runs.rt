@@ -68,7 +68,7 @@ pub fn in_run(bytes: &[u8], names: &[u32], words: &[u32], t: Tables, r: usize, p
 }
 
 // A row of a chain, and how many binders come before it.
-#[derive(Drop)]
+#[derive(Clone, Copy)]
 pub struct Reached {
     pub row: usize,
     pub count: usize,

@@ -10,7 +10,7 @@ use pool::kinds::EXPR_APP;
 use pool::tables::Tables;
 
 // The rows of an application's arguments, the last one first, and of its head.
-#[derive(Drop)]
+#[derive(Clone, Copy)]
 pub struct Spine {
     pub arguments: [u32; 256],
     pub count: usize,

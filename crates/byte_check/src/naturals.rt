@@ -13,7 +13,7 @@ use pool::kinds::OFFSET;
 use pool::tables::{Tables, string_word};
 
 // Digits in the byte area, from `from` on and before `to`.
-#[derive(Drop)]
+#[derive(Clone, Copy)]
 pub struct Run {
     pub from: usize,
     pub to: usize,

@@ -1,4 +1,6 @@
 // The call that compares two expression rows of a pool.
+#![tactic(auto)]
+
 ghost use Rattle.std.specs.Prelude.{◌≡◌};
 ghost use Rattle.basics.specs.Lent.{was};
 ghost use Rattle.comparison.specs.Call.{comparison};
@@ -8,7 +10,7 @@ use pool::tables::tables_of;
 use pool_check::{Verdict, is_accepted};
 
 // What it answers.
-#[derive(Drop)]
+#[derive(Clone, Copy)]
 pub enum Compared {
     // Their trees are equal.
     Equal,
@@ -23,7 +25,7 @@ pub enum Compared {
 // Whether the trees of two rows are equal, and else the first pair of rows whose kinds, or fields that are no expressions, differ:
 // a row before its children, these last field first.
 pub fn compare(bytes: &[u8], words: &[u32], first: usize, second: usize) -> Compared
-    ensures { result ≡ comparison (was bytes) (was words) first second }
+    ensures { result ≡ comparison bytes.now words.now first second }
 {
     let t = tables_of(words, words);
     let verdict = pool_check::check(bytes, words);

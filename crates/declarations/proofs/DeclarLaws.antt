@@ -35,7 +35,7 @@ use Rattle.pieces.specs.Puts.{join_piece}
 use Rattle.pretty_printer.specs.Parts.{printed, in_scope, chain_part, groups_part}
 use Rattle.declarations.specs.Heads.{Declared, TakenEnd, head_part, type_part, value_part, def_part, def_start, def_parts, axiom_part, axiom_start}
 use Rattle.binders.proofs.RenameLaws.{rename_agrees, rename-same, lift_adds}
-use Rattle.binders.proofs.ScopeLaws.{chain_length, scope-up, Under, chain_is_scoped, body-is-scoped, names_are_pushed, place_past}
+use Rattle.binders.proofs.ScopeLaws.{chain_length_lem, scope-up, Under, chain_is_scoped, body-is-scoped, names_are_pushed, place_past}
 use Rattle.pretty_printer.proofs.ChainLaws.{leading_takes, following_drops, run_length_lem}
 use Rattle.binders.proofs.ViewLaws.{binder_row, binder_at, length_none}
 use Rattle.binders.proofs.DropLaws.{Later, later, length-scoped, run-within}
@@ -274,7 +274,7 @@ module _ (opts : PpOptions) (p : Pool) (k : Stack) (e : Expr) (c : Chained p k 0
   after-chained n l = rw (zero-add n) at ((after n l).chained c)
 
   pub after-scope : (n : ℕ) → n ≤ chain_length e → length (scoped k n n (drop_chain n e)) + n ≡ k.count
-  after-scope n l = chain_length p k n n (drop_chain n e) (after-chained n l)
+  after-scope n l = chain_length_lem p k n n (drop_chain n e) (after-chained n l)
 
   drop-length : (n : ℕ) → n ≤ chain_length e → length (drop n (binders e)) + n ≡ k.count
   drop-length n l =
@@ -297,11 +297,11 @@ place_self p k (suc n) m (const a ls) c l f i = absurd (omega arith)
 place_self p k (suc n) m (app g a) c l f i = absurd (omega arith)
 place_self p k (suc n) m (pi q a s t b) c l f i =
     let z : m + suc n ≡ suc m + n = omega arith in
-    let len : length (scoped k (suc m) (suc m) b) + suc m ≡ k.count = chain_length p k (suc m) (suc m) b c.2 in
+    let len : length (scoped k (suc m) (suc m) b) + suc m ≡ k.count = chain_length_lem p k (suc m) (suc m) b c.2 in
     rw z (place_self p k n (suc m) b c.2 (omega arith) (λ j. scope-up k m m (λ x. x) c.0 (omega arith) f j ∙ ap (λ (x : ℕ). x + (k.count - suc m)) (up_self j)) i)
 place_self p k (suc n) m (lam q a s t b) c l f i =
     let z : m + suc n ≡ suc m + n = omega arith in
-    let len : length (scoped k (suc m) (suc m) b) + suc m ≡ k.count = chain_length p k (suc m) (suc m) b c.2 in
+    let len : length (scoped k (suc m) (suc m) b) + suc m ≡ k.count = chain_length_lem p k (suc m) (suc m) b c.2 in
     rw z (place_self p k n (suc m) b c.2 (omega arith) (λ j. scope-up k m m (λ x. x) c.0 (omega arith) f j ∙ ap (λ (x : ℕ). x + (k.count - suc m)) (up_self j)) i)
 place_self p k (suc n) m (letᵉ q a t v b d) c l f i = absurd (omega arith)
 place_self p k (suc n) m (proj a j e) c l f i = absurd (omega arith)

@@ -54,7 +54,7 @@ fn can_take(bytes: &[u8], names: &[u32], words: &[u32], t: Tables, r: usize, val
 }
 
 // What is left of a type and of a value, and how many binders left the type.
-#[derive(Drop)]
+#[derive(Clone, Copy)]
 pub struct Opened {
     pub row: usize,
     pub value: usize,
@@ -218,9 +218,9 @@ fn def_rest(
     row: usize,
     count: usize,
 ) -> Sink
-    requires in_chain { (InChain bytes.now names.now words.now p.tables k 0 0 r)
+    requires r_in_chain { (InChain bytes.now names.now words.now p.tables k 0 0 r)
         × (count ≤ chain_length (expr_at (given bytes names words) r)) }
-    requires in_chain_2 { (InChain bytes.now names.now words.now p.tables k count count row)
+    requires row_in_chain { (InChain bytes.now names.now words.now p.tables k count count row)
         × (expr_at (given bytes names words) row ≡ drop_chain count (expr_at (given bytes names words) r)) }
     ensures { Leaves rows text s result (emit (def_part (options_of p) (lent bytes names words) k count
         (expr_at (lent bytes names words) r))) }
@@ -306,9 +306,9 @@ fn axiom_rest(
     row: usize,
     count: usize,
 ) -> Sink
-    requires in_chain { (InChain bytes.now names.now words.now p.tables k 0 0 r)
+    requires r_in_chain { (InChain bytes.now names.now words.now p.tables k 0 0 r)
         × (count ≤ chain_length (expr_at (given bytes names words) r)) }
-    requires in_chain_2 { (InChain bytes.now names.now words.now p.tables k count count row)
+    requires row_in_chain { (InChain bytes.now names.now words.now p.tables k count count row)
         × (expr_at (given bytes names words) row ≡ drop_chain count (expr_at (given bytes names words) r)) }
     ensures { Leaves rows text s result (emit (axiom_part (options_of p) (lent bytes names words) k count
         (expr_at (lent bytes names words) r))) }

@@ -23,7 +23,7 @@ use Rattle.compare.specs.Equal.{trees_same, same_at, fields_same, parts_same}
 use Rattle.compare.proofs.EqualLaws.{by_kind, other_labels}
 use Rattle.equality.specs.Sweep.{tree_at, lifted_at}
 use Rattle.equality.proofs.SweepLaws.{same-is, is_same}
-use Rattle.difference.specs.Order.{Comparison, equal, differ, ◌andThen◌, fields_equal, children, first_to}
+use Rattle.difference.specs.Order.{Comparison, equal, differ, ◌and_then◌, fields_equal, children, first_to}
 use Rattle.difference.specs.Walks.{is_plain, first_at, parts_at}
 
 -- ---- whether it says equal
@@ -38,7 +38,7 @@ equal_is equal e = refl
 equal_is (differ a b) e = false-true e
 
 equal-both : (k l : Comparison) → is_equal (k and_then l) ≡ is_equal k && is_equal l
-unfolding is_equal ◌andThen◌
+unfolding is_equal ◌and_then◌
 equal-both equal l = refl
 equal-both (differ a b) l = refl
 
@@ -72,23 +72,23 @@ module _ (n : ℕ) (p : Pool) (d c a b : ℕ) where
   Parts k = children (first_to n p d) c (expr_kind k) (expr_word p.words a) (expr_word p.words b) ≡ parts_at n p d c a b k
 
   leaf_parts : (Parts 0) × (Parts 1) × (Parts 2) × (Parts 8) × (Parts 9)
-  unfolding children parts_at first_at first_part second_part body_part expr_kind ◌andThen◌
+  unfolding children parts_at first_at first_part second_part body_part expr_kind ◌and_then◌
   leaf_parts = (refl, refl, refl, refl, refl)
 
   app_parts : Parts 3
-  unfolding children parts_at first_at first_part second_part body_part expr_kind ◌andThen◌
+  unfolding children parts_at first_at first_part second_part body_part expr_kind ◌and_then◌
   app_parts = rw (add-one (wa 1), add-one (wb 1), add-one (wa 2), add-one (wb 2))
 
   binder_parts : (Parts 4) × (Parts 5)
-  unfolding children parts_at first_at first_part second_part body_part expr_kind ◌andThen◌
+  unfolding children parts_at first_at first_part second_part body_part expr_kind ◌and_then◌
   binder_parts = (rw (add-one (wa 3), add-one (wb 3), add-one (wa 4), add-one (wb 4)), rw (add-one (wa 3), add-one (wb 3), add-one (wa 4), add-one (wb 4)))
 
   let_parts : Parts 6
-  unfolding children parts_at first_at first_part second_part body_part expr_kind ◌andThen◌
+  unfolding children parts_at first_at first_part second_part body_part expr_kind ◌and_then◌
   let_parts = rw (add-one (wa 2), add-one (wb 2), add-one (wa 3), add-one (wb 3), add-one (wa 4), add-one (wb 4))
 
   proj_parts : Parts 7
-  unfolding children parts_at first_at first_part second_part body_part expr_kind ◌andThen◌
+  unfolding children parts_at first_at first_part second_part body_part expr_kind ◌and_then◌
   proj_parts = rw (add-one (wa 3), add-one (wb 3))
 
   parts_are : (k : ℕ) → k < 10 → Parts k

@@ -8,7 +8,7 @@ use Rattle.pool.specs.Tables.{Pool, pool, string_word, name_word, list_word, exp
 use Rattle.pool.specs.Tree.{name_shape, level_shapes, same_shape}
 use Rattle.pool.specs.Unfold.{name_at, name_to, name_node, list_at, levels_from}
 use Rattle.utf8.specs.Letterlike.{same_bytes}
-use Rattle.difference.specs.Order.{Comparison, equal, differ, ◌andThen◌, fields_equal, children, first_to, first_pair}
+use Rattle.difference.specs.Order.{Comparison, equal, differ, ◌and_then◌, fields_equal, children, first_to, first_pair}
 
 -- counts, strings, names (row 0 anonymous, then f, g, a, b), a list of no levels
 abbrev head : List ℕ
@@ -36,6 +36,6 @@ small = pool (102 ∷ 103 ∷ 97 ∷ 98 ∷ []) (head ++ exprs)
 
 pub pairs : ((first_pair small 0 5 6 ≡ differ 2 3) × (first_pair small 0 5 7 ≡ equal) × (first_pair small 0 6 7 ≡ differ 3 2) × (first_pair small 0 8 9 ≡ differ 2 3)
     × (first_pair small 0 8 10 ≡ differ 8 10) × (first_pair small 0 5 8 ≡ differ 5 8))
-unfolding first_pair first_to fields_equal children ◌andThen◌ expr_kind name_kind string_word name_word list_word expr_word string_at name_shape level_shapes same_shape
+unfolding first_pair first_to fields_equal children ◌and_then◌ expr_kind name_kind string_word name_word list_word expr_word string_at name_shape level_shapes same_shape
     name_at name_to name_node list_at levels_from same_bytes
 pairs = (refl, refl, refl, refl, refl, refl)

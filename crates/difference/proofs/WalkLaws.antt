@@ -18,7 +18,7 @@ use Rattle.occurrence.proofs.PartLaws.{first_lower, second_lower, body_lower}
 use Rattle.compare.specs.Equal.{fields_same, OneKind}
 use Rattle.links.specs.Links.{Owes}
 use Rattle.equality.specs.Sweep.{tree_at}
-use Rattle.difference.specs.Order.{Comparison, equal, differ, ◌andThen◌, first_to}
+use Rattle.difference.specs.Order.{Comparison, equal, differ, ◌and_then◌, first_to}
 use Rattle.difference.specs.Walks.{is_plain, Classed, KeepsIf, TwoRows, first_at, parts_at, AtOnce, Tells, TwoParts, Walked}
 use Rattle.difference.proofs.OrderLaws.{kinds_differ, fields_differ, by_parts, known_equal, equal_known}
 
@@ -177,7 +177,7 @@ module _ (bs ns ws : List ℕ) (t : Tables) (kept : List ℕ) (d x y c : ℕ) (l
               bodies n = rw (add-one c, e₁, f₁)
 
               body-told : (v₁ ≡ 1 → ⊥) → (n : ℕ) → x ≤ n → Tells (first_at n p d c x y) v₁ a₁ b₁
-              unfolding parts_at ◌andThen◌
+              unfolding parts_at ◌and_then◌
               body-told m zero g = absurd (nx (omega arith))
               body-told m (suc n) g =
                   record { no = λ z. whole n ∙ rw (bodies n, (w₁.told n (omega (arith, lower₁))).no z); yes = λ z. absurd (m z) }
@@ -202,7 +202,7 @@ module _ (bs ns ws : List ℕ) (t : Tables) (kept : List ℕ) (d x y c : ℕ) (l
                   body-equal n g = (w₁.told n (omega (arith, lower₁))).yes o₁
 
                   second-told : (v₂ ≡ 1 → ⊥) → (n : ℕ) → x ≤ n → Tells (first_at n p d c x y) v₂ a₂ b₂
-                  unfolding parts_at ◌andThen◌
+                  unfolding parts_at ◌and_then◌
                   second-told m zero g = absurd (nx (omega arith))
                   second-told m (suc n) g =
                       record {
@@ -230,7 +230,7 @@ module _ (bs ns ws : List ℕ) (t : Tables) (kept : List ℕ) (d x y c : ℕ) (l
                       second-equal n g = (w₂.told n (omega (arith, lower₂))).yes o₂
 
                       first-told : (n : ℕ) → x ≤ n → Tells (first_at n p d c x y) v₃ a₃ b₃
-                      unfolding parts_at ◌andThen◌
+                      unfolding parts_at ◌and_then◌
                       first-told zero g = absurd (nx (omega arith))
                       first-told (suc n) g =
                           record {

@@ -12,8 +12,8 @@ pub data Comparison : Type 0 where
   differ : ℕ → ℕ → Comparison
 
 -- what is looked at first decides, unless it is equal
-infixr 40 ◌andThen◌
-unfoldable pub ◌andThen◌ : Comparison → Comparison → Comparison
+infixr 40 ◌and_then◌
+unfoldable pub ◌and_then◌ : Comparison → Comparison → Comparison
 equal and_then later = later
 differ a b and_then later = differ a b
 

@@ -13,7 +13,7 @@ use pool::fields;
 use pool::tables::Tables;
 
 // What a walk has found: 0, the pair of rows a and b; 1, that all is equal; 2, nothing, since no step was left.
-#[derive(Drop)]
+#[derive(Clone, Copy)]
 pub struct Found {
     pub answer: usize,
     pub a: usize,

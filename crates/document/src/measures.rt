@@ -5,7 +5,7 @@ ghost use Rattle.document.specs.Rows.{word, left_of, measures_at, Small};
 
 use basics::numbers::less;
 
-#[derive(Drop)]
+#[derive(Clone, Copy)]
 pub struct Measures {
     pub count: usize,
     pub flat: usize,

@@ -8,7 +8,7 @@ use crate::measures::{Measures, joined, measures_at, wrapped};
 use basics::numbers::{less, lesser, low};
 
 // The rows and text bytes written so far; the number that stopped the walk, or 0, and its place.
-#[derive(Drop)]
+#[derive(Clone, Copy)]
 pub struct Sink {
     pub rows: usize,
     pub text: usize,

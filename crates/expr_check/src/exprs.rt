@@ -22,7 +22,7 @@ use pool::kinds::{
 use pool::tables::{Tables, expr_word};
 
 // The words of a row.
-#[derive(Drop)]
+#[derive(Clone, Copy)]
 pub struct Fields {
     pub kind: usize,
     pub a: usize,
@@ -35,7 +35,7 @@ pub struct Fields {
 }
 
 // What a row's kind asks: whether its fields are right, and what its depth and loose words have to be, from those of lower rows.
-#[derive(Drop)]
+#[derive(Clone, Copy)]
 pub struct Asked {
     pub right: bool,
     pub depth: usize,

@@ -1,3 +1,5 @@
 // The rules of expression rows in check.
+#![tactic(auto)]
+
 pub mod exprs;
 mod unused;

@@ -5,7 +5,7 @@ ghost use Rattle.basics.specs.Lent.{was, left};
 
 // Copies as many bytes as fit to the front of the area.
 fn copy(area: &mut [u8], bytes: &[u8])
-    ensures { left area ≡ paint (was area) 0 (was bytes) }
+    ensures { left area ≡ paint (was area) 0 bytes.now }
 {
     let mut i = 0;
     while i < area.len() && i < bytes.len() {
@@ -16,7 +16,7 @@ fn copy(area: &mut [u8], bytes: &[u8])
 
 // Copies them into the part of the area that starts at a position; there may be no such part.
 pub fn copy_at(area: &mut [u8], position: usize, bytes: &[u8])
-    ensures { left area ≡ paint (was area) position (was bytes) }
+    ensures { left area ≡ paint (was area) position bytes.now }
 {
     if position < area.len() {
         copy(&mut area[position..], bytes);

@@ -10,7 +10,7 @@ use crate::area::{copy_at, fill_at};
 
 // The bytes emitted so far, where the row ends, the lines so far (that of the cursor among them), the longest row so far, and the fit tests
 // so far.
-#[derive(Drop)]
+#[derive(Clone, Copy)]
 pub struct Cursor {
     pub position: usize,
     pub end: usize,
@@ -55,7 +55,7 @@ impl Cursor {
 
     pub fn text(self, width: usize, listing: &mut [u8], bytes: &[u8]) -> Cursor
         requires { Steady width self × (self.position + length bytes.now + width < 18446744073709551616) }
-        ensures { Emits listing width (textᵖ (was bytes)) self result }
+        ensures { Emits listing width (textᵖ bytes.now) self result }
     {
         let position = self.position;
         let last = position + bytes.len();

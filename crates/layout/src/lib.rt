@@ -1,4 +1,6 @@
 // The layout of a document at a width (numbers 9, 6 and 22).
+#![tactic(auto)]
+
 ghost use Rattle.std.specs.Prelude.{◌≡◌, ◌≤◌};
 ghost use Rattle.document.specs.Rows.{Accepted};
 ghost use Rattle.layout.specs.Layout.{pieces};
@@ -16,7 +18,7 @@ pub mod cursor;
 pub mod rows;
 
 // What is reported of a listing: document rows, text bytes, listing length, lines, longest row, fit tests.
-#[derive(Drop)]
+#[derive(Clone, Copy)]
 pub struct Counts {
     pub rows: usize,
     pub text: usize,
@@ -28,7 +30,7 @@ pub struct Counts {
 
 // What a layout answers: what it reports, or the first faulty row of the document (9), a width over its limit (6), a listing longer than
 // its area (22).
-#[derive(Drop)]
+#[derive(Clone, Copy)]
 pub enum Laid {
     Done { counts: Counts },
     Document { row: usize },
@@ -37,7 +39,7 @@ pub enum Laid {
 }
 
 // What is known of a given document and a width before a row is laid out.
-#[derive(Drop)]
+#[derive(Clone, Copy)]
 pub enum Admission {
     Admitted,
     Document { row: usize },
@@ -46,7 +48,7 @@ pub enum Admission {
 
 // 9, then 6: what a layout refuses before it lays out a row.
 pub fn check_given(rows: &[u32], count: usize, text: &[u8], total: usize, width: usize) -> Admission
-    ensures { result ≡ admission (was rows) count (was text) total width }
+    ensures { result ≡ admission rows.now count text.now total width }
 {
     if !counts_ok(rows.len(), count, text.len(), total) {
         return Admission::Document { row: 0 };
@@ -63,7 +65,7 @@ pub fn check_given(rows: &[u32], count: usize, text: &[u8], total: usize, width:
 
 // What is answered once the last row is laid out: 22, or what is reported of the listing.
 pub fn report(last: Cursor, count: usize, total: usize, listing: &[u8]) -> Laid
-    ensures { result ≡ reported last count total (was listing) }
+    ensures { result ≡ reported last count total listing.now }
 {
     let length = last.position;
     if listing.len() < length {
@@ -90,7 +92,7 @@ pub fn layout_accepted(
     listing: &mut [u8],
 ) -> Laid
     requires { Accepted rows.now count text.now total × (width ≤ 65535) }
-    ensures { Lists listing result (listed count total (pieces width (doc_of (was rows) count (was text)))) }
+    ensures { Lists listing result (listed count total (pieces width (doc_of rows.now count text.now))) }
 {
     let start = cursor::start(width);
     let last = lay_out(count - 1, rows, text, width, 0, false, 0, start, listing);
@@ -106,7 +108,7 @@ pub fn layout(
     width: usize,
     listing: &mut [u8],
 ) -> Laid
-    ensures { Lists listing result (outcome (was rows) count (was text) total width) }
+    ensures { Lists listing result (outcome rows.now count text.now total width) }
 {
     match check_given(rows, count, text, total, width) {
         Admission::Admitted => layout_accepted(rows, count, text, total, width, listing),

@@ -12,7 +12,7 @@ use document::measures::{left_of, through, word_in};
 // The distance from the end of the left child of the join at row r to the next break, where it is `next` at the join's end.
 pub fn next_of_left(rows: &[u32], r: usize, next: usize) -> usize
     requires { ((0 < r) × (r * 7 ≤ length rows.now)) × (next < 4611686018427387904) }
-    ensures { (result ≡ next_of_left (was rows) r next) × (result < next + 4294967296) }
+    ensures { (result ≡ next_of_left rows.now r next) × (result < next + 4294967296) }
 {
     let right = r - 1;
     through(word_in(rows, right, 6), word_in(rows, right, 5), next)
@@ -27,7 +27,7 @@ pub fn lay_text(
     listing: &mut [u8],
 ) -> Cursor
     requires { TextRoom rows.now texts.now r width c }
-    ensures { Emits listing width (textᵖ (text_of (was rows) (was texts) r)) c result }
+    ensures { Emits listing width (textᵖ (text_of rows.now texts.now r)) c result }
 {
     let from = word_in(rows, r, 1);
     let size = word_in(rows, r, 2);
@@ -45,7 +45,7 @@ pub fn lay_break(
     listing: &mut [u8],
 ) -> Cursor
     requires { BreakRoom rows.now r width nest c }
-    ensures { Emits listing width (placed flat (word (was rows) r 1) nest) c result }
+    ensures { Emits listing width (placed flat (word rows.now r 1) nest) c result }
 {
     if flat {
         let blank = word_in(rows, r, 1);

@@ -1,6 +1,6 @@
 -- The references of a call, as the contracts speak of them.
 use Rattle.std.specs.Prelude.{ℕ, List, ◌≡◌, length, replicate}
-use Rattle.basics.specs.Lent.{Area, was, left}
+use Rattle.basics.specs.Lent.{Area, Shared, was, left, held}
 use Rattle.layout.specs.declared.cursor.Cursor.{Cursor}
 use Rattle.layout.specs.declared.Laid.{Laid}
 use Rattle.layout.specs.Call as first
@@ -22,6 +22,6 @@ ListsCleared pending listing v defined =
     Lists listing v defined × (left pending ≡ replicate (length (was pending)) 0)
 
 -- the pieces of the whole document are emitted
-abbrev pub LaysOutWhole : Area → ℕ → Area → ℕ → Area → Cursor → Type 0
+abbrev pub LaysOutWhole : Shared → ℕ → Shared → ℕ → Area → Cursor → Type 0
 LaysOutWhole rows count texts width listing v =
-    Emitteds width (pieces width (doc_of (was rows) count (was texts))) (start width) v (was listing) (left listing)
+    Emitteds width (pieces width (doc_of (held rows) count (held texts))) (start width) v (was listing) (left listing)

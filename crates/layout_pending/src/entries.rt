@@ -8,7 +8,7 @@ use basics::numbers::low;
 
 // A row that is still to be laid out: the nest it stands in, whether it is inside a flat group, and the distance from its end to the next
 // break (or to the end).
-#[derive(Drop)]
+#[derive(Clone, Copy)]
 pub struct Entry {
     pub row: usize,
     pub nest: usize,
@@ -38,7 +38,7 @@ pub fn put(pending: &mut [u32], at: usize, e: Entry)
 // The entry at a place of the stack.
 pub fn entry_at(pending: &[u32], at: usize) -> Entry
     requires { at * 3 + 3 ≤ length pending.now }
-    ensures { result ≡ entry_at (was pending) at }
+    ensures { result ≡ entry_at pending.now at }
 {
     let row = pending[at * 3] as usize;
     let nest = pending[at * 3 + 1] as usize;

@@ -1,4 +1,6 @@
 // The layout of a given document without deep calls: the rows that are still to be laid out stand in a lent area (numbers 9, 6, 30, 22).
+#![tactic(auto)]
+
 ghost use Rattle.std.specs.Prelude.{◌*◌, ◌≤◌, length};
 ghost use Rattle.basics.specs.Lent.{was};
 ghost use Rattle.document.specs.Rows.{Accepted};
@@ -15,7 +17,7 @@ pub mod entries;
 pub mod turns;
 
 // What this layout answers: what the first one does, or a pending area shorter than three words for each row (30).
-#[derive(Drop)]
+#[derive(Clone, Copy)]
 pub enum LaidPending {
     Laid { laid: Laid },
     PendingArea,
@@ -32,7 +34,7 @@ fn layout_accepted(
     listing: &mut [u8],
 ) -> Laid
     requires { Accepted rows.now count text.now total × ((width ≤ 65535) × (count * 3 ≤ length pending.old)) }
-    ensures { ListsCleared pending listing result (listed count total (pieces width (doc_of (was rows) count (was text)))) }
+    ensures { ListsCleared pending listing result (listed count total (pieces width (doc_of rows.now count text.now))) }
 {
     let last = lay_out_pending(rows, count, text, width, pending, listing);
     clear_words(pending);
@@ -49,7 +51,7 @@ pub fn layout_pending(
     pending: &mut [u32],
     listing: &mut [u8],
 ) -> LaidPending
-    ensures { ListsPending pending listing result (outcome_pending (was rows) count (was text) total width) }
+    ensures { ListsPending pending listing result (outcome_pending rows.now count text.now total width) }
 {
     match check_given(rows, count, text, total, width) {
         Admission::Document { row } => LaidPending::Laid {

@@ -12,7 +12,7 @@ use layout::rows::{lay_break, lay_text, next_of_left};
 // The left child of a join.
 fn left_child(rows: &[u32], e: Entry) -> Entry
     requires { ((0 < e.row) × (e.row * 7 ≤ length rows.now)) × (e.next < 4611686018427387904) }
-    ensures { result ≡ left_child (was rows) e }
+    ensures { result ≡ left_child rows.now e }
 {
     let row = left_of(rows, e.row);
     let next = next_of_left(rows, e.row, e.next);
@@ -40,7 +40,7 @@ fn last_child(e: Entry, nest: usize, flat: bool) -> Entry
 // Whether a group is flat: inside a flat one it is, else the fit test says.
 fn is_flat(rows: &[u32], e: Entry, c: Cursor) -> bool
     requires { TestRoom rows.now e c }
-    ensures { result ≡ flat_group (was rows) e c }
+    ensures { result ≡ flat_group rows.now e c }
 {
     if e.flat {
         return true;

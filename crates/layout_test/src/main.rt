@@ -2,6 +2,8 @@
 // filled with question marks. Writes of each case its title, what was made, number, place and counts of the first layout's answer, and what
 // the listing area begins with; then whether the second layout answers and lists the same, and what the pending area holds. The file stdout
 // has what 01 and 02 say.
+#![tactic(auto)]
+
 mod answers;
 mod areas;
 mod build;

@@ -24,7 +24,7 @@ use pool::kinds::{LEVEL_MAX, LEVEL_PARAM, LEVEL_SUCC, LEVEL_ZERO};
 use pool::tables::{Tables, list_entry};
 
 // A level that is no successor, and how many successors of it are meant.
-#[derive(Drop)]
+#[derive(Clone, Copy)]
 pub struct Succs {
     pub base: usize,
     pub count: u64,
@@ -45,7 +45,7 @@ fn level_succs(bytes: &[u8], names: &[u32], words: &[u32], t: Tables, r: usize) 
 }
 
 // A sink that has stopped is handed back at once: rows may repeat, and without this a walk of them could take exponential time.
-#[cycle(pp_base_pp_level_pp_max_put_plus)]
+#[cycle(levels)]
 pub fn pp_level(
     bytes: &[u8],
     names: &[u32],
@@ -75,7 +75,7 @@ pub fn pp_level(
 }
 
 // A level that is no successor.
-#[cycle(pp_base_pp_level_pp_max_put_plus)]
+#[cycle(levels)]
 fn pp_base(
     bytes: &[u8],
     names: &[u32],
@@ -103,7 +103,7 @@ fn pp_base(
 }
 
 // A max (kind 2) or imax (kind 3).
-#[cycle(pp_base_pp_level_pp_max_put_plus)]
+#[cycle(levels)]
 fn pp_max(
     bytes: &[u8],
     names: &[u32],
@@ -135,7 +135,7 @@ fn pp_max(
 }
 
 // Some successors of a level that is none, and not zero.
-#[cycle(pp_base_pp_level_pp_max_put_plus)]
+#[cycle(levels)]
 fn put_plus(
     bytes: &[u8],
     names: &[u32],

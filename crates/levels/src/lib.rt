@@ -1,2 +1,4 @@
 // Levels, sorts and level lists to documents.
+#![tactic(auto)]
+
 pub mod levels;

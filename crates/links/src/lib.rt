@@ -1,5 +1,7 @@
 // Rows that have to be equal, put aside in an array: the row x has m + 1 where it has to be what the row m is, and 0 where nothing is
 // owed. Of two rows the higher one owes, so that a pass from the top row down meets each row once.
+#![tactic(auto)]
+
 ghost use Rattle.std.specs.Prelude.{◌≡◌, true, ◌+◌, ◌<◌, ◌≤◌, get_or, set, length};
 ghost use Rattle.links.specs.Links.{Linked, Put, Clear};
 

@@ -3,12 +3,9 @@ use Prim.Native.Nat.{ℕ, ◌+◌, ◌-◌, ◌*◌, ◌≤◌}
 use native.Mathlib.Omega.{arith}
 use mathlib.Core.Bool.{true, false}
 use mathlib.Core.List.{List, [], ◌∷◌, ◌++◌}
-use mathlib.Core.Logic.{⊎_elim}
 use mathlib.Core.Path.{◌≡◌, refl, sym, ap, ap₂, ◌∙◌, subst}
 use lib.Dec.{eqb}
-use types.Run.{OneOf}
-use denote.Enum.Declared.{tag_of}
-use Rattle.layout.specs.contracts.Laid as the-laids
+use Rattle.layout.specs.declared.Counts.{Counts}
 use lib.ListN.{length, replicate}
 use borrow.Author.Tests.{eq-eqb, ne_eqb}
 use Rattle.document.specs.declared.sink.Sink.{Sink}
@@ -144,9 +141,9 @@ unfolding stop_answer
 other_stop n place a b c = rw (ne_eqb n 7 a, ne_eqb n 8 b, ne_eqb n 20 c)
 
 -- any layout but one that is done
-pub refused-layout : (l : Laid) → OneOf (1 ∷ 2 ∷ 3 ∷ []) (tag_of the-laids.the_type l) → Listing ≡ of_laid l
+pub refused-layout : (l : Laid) → ((counts : Counts) → l ≡ laids.Done counts → ⊥) → Listing ≡ of_laid l
 unfolding of_laid
-refused-layout (laids.Done counts) other = absurd (⊎_elim (λ e. omega arith) (⊎_elim (λ e. omega arith) (λ e. omega arith)) other)
+refused-layout (laids.Done counts) other = absurd (other counts refl)
 refused-layout (laids.Document row) other = refl
 refused-layout laids.Width other = refl
 refused-layout laids.Listing other = refl

@@ -15,7 +15,7 @@ use pool_check::is_accepted;
 
 // The bytes of a part; what lies past the end is left out.
 pub fn part(s: &[u8], p: Part) -> &[u8]
-    ensures { result.now ≡ part_of (was s) p }
+    ensures { result.now ≡ part_of s.now p }
 {
     let from = lesser(p.offset, s.len());
     let to = from + lesser(p.size, s.len() - from);
@@ -24,7 +24,7 @@ pub fn part(s: &[u8], p: Part) -> &[u8]
 
 // Whether the document is accepted and has the text row r.
 fn has_text(rows: &[u32], count: usize, text: &[u8], total: usize, r: usize) -> bool
-    ensures { result ≡ has_text (was rows) count (was text) total r }
+    ensures { result ≡ has_text rows.now count text.now total r }
 {
     if !counts_ok(rows.len(), count, text.len(), total) {
         return false;
@@ -37,7 +37,7 @@ fn has_text(rows: &[u32], count: usize, text: &[u8], total: usize, r: usize) -> 
 
 // Where its bytes lie in `text`.
 pub fn text_span(rows: &[u32], count: usize, text: &[u8], total: usize, r: usize) -> Part
-    ensures { result ≡ text_span (was rows) count (was text) total r }
+    ensures { result ≡ text_span rows.now count text.now total r }
 {
     if !has_text(rows, count, text, total, r) {
         return Part { offset: 0, size: 0 };

@@ -1,4 +1,6 @@
 // The calls: check, print expression, print declaration, the two layouts of a given document, handing out, comparing two expression rows.
+#![tactic(auto)]
+
 ghost use Rattle.std.specs.Prelude.{cond, ◌≡◌};
 ghost use Rattle.comparison.specs.Call.{comparison};
 ghost use Rattle.layout.specs.Call.{outcome};
@@ -26,7 +28,7 @@ mod checked;
 mod handing;
 
 // What a print answers: the counts of a print that succeeded, or the case of a refusal with its place.
-#[derive(Drop)]
+#[derive(Clone, Copy)]
 pub enum Answer {
     Done { counts: Counts },
     // 1 to 4: what check finds.
@@ -48,14 +50,14 @@ pub enum Answer {
 }
 
 // What is handed out: the text of a document's row, or a pool's string.
-#[derive(Drop)]
+#[derive(Clone, Copy)]
 pub enum Handed {
     Text { row: usize },
     String { row: usize },
 }
 
 // Where a part of an area lies: so many bytes from an offset on.
-#[derive(Drop)]
+#[derive(Clone, Copy)]
 pub struct Part {
     pub offset: usize,
     pub size: usize,
@@ -159,7 +161,7 @@ pub fn layout(
     width: usize,
     listing: &mut [u8],
 ) -> Laid
-    ensures { Lists listing result (outcome (was rows) count (was text) total width) }
+    ensures { Lists listing result (outcome rows.now count text.now total width) }
 {
     layout::layout(rows, count, text, total, width, listing)
 }
@@ -174,7 +176,7 @@ pub fn layout_pending(
     pending: &mut [u32],
     listing: &mut [u8],
 ) -> LaidPending
-    ensures { ListsPending pending listing result (outcome_pending (was rows) count (was text) total width) }
+    ensures { ListsPending pending listing result (outcome_pending rows.now count text.now total width) }
 {
     layout_pending::layout_pending(rows, count, text, total, width, pending, listing)
 }
@@ -190,7 +192,7 @@ pub fn hand_out_span(
     total: usize,
     what: Handed,
 ) -> Part
-    ensures { result ≡ span_of (given bytes words) (was rows) count (was text) total what }
+    ensures { result ≡ span_of (given bytes words) rows.now count text.now total what }
 {
     match what {
         Handed::Text { row } => text_span(rows, count, text, total, row),
@@ -208,7 +210,7 @@ pub fn hand_out<'a>(
     total: usize,
     what: Handed,
 ) -> &'a [u8]
-    ensures { result.now ≡ hand_out (given bytes words) (was rows) count (was text) total what }
+    ensures { result.now ≡ hand_out (given bytes words) rows.now count text.now total what }
 {
     match what {
         Handed::Text { row } => part(text, text_span(rows, count, text, total, row)),
@@ -218,7 +220,7 @@ pub fn hand_out<'a>(
 
 // Compares two expression rows, from the back: their trees are equal, or the first pair of rows that differ.
 pub fn compare(bytes: &[u8], words: &[u32], first: usize, second: usize) -> Compared
-    ensures { result ≡ comparison (was bytes) (was words) first second }
+    ensures { result ≡ comparison bytes.now words.now first second }
 {
     comparison::compare(bytes, words, first, second)
 }

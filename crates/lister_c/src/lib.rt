@@ -1,5 +1,7 @@
 // The calls as C functions, for `rt staticlib lister_c`. A slice is a pointer and a length in elements. Each call returns the refusal
 // number, 0 for none, and fills the first eight words of `out`; an `out` that is shorter than eight is left as it is.
+#![tactic(auto)]
+
 ghost use Rattle.std.specs.Prelude.{[], ◌∷◌, ◌≡◌};
 ghost use Rattle.comparison.specs.Call.{comparison};
 ghost use Rattle.layout.specs.Call.{outcome};
@@ -18,7 +20,7 @@ use lister::{Answer, Handed, Part};
 use pool_check::Verdict;
 
 // What a call reports, in the order of `out`; what does not apply is 0.
-#[derive(Drop)]
+#[derive(Clone, Copy)]
 pub struct Report {
     pub number: u32,
     pub place: usize,
@@ -169,7 +171,7 @@ pub extern "C" fn tilusorgu_layout(
     listing: &mut [u8],
     out: &mut [u64],
 ) -> u32
-    ensures { LaysOut listing out result (outcome (was rows) count (was text) total width) }
+    ensures { LaysOut listing out result (outcome rows.now count text.now total width) }
 {
     let report = of_laid(layout::layout(
         rows,
@@ -195,7 +197,7 @@ pub extern "C" fn tilusorgu_layout_pending(
     listing: &mut [u8],
     out: &mut [u64],
 ) -> u32
-    ensures { LaysOutPending pending listing out result (outcome_pending (was rows) row_count (was text) text_count width) }
+    ensures { LaysOutPending pending listing out result (outcome_pending rows.now row_count text.now text_count width) }
 {
     let report = of_laid_pending(layout_pending::layout_pending(
         rows,
@@ -279,7 +281,7 @@ fn kind_span(
     kind: u32,
     row: usize,
 ) -> Part
-    ensures { result ≡ kind_span (given bytes words) (was rows) count (was text) total kind row }
+    ensures { result ≡ kind_span (given bytes words) rows.now count text.now total kind row }
 {
     if kind == 0 {
         return lister::hand_out_span(bytes, words, rows, count, text, total, Handed::Text { row });
@@ -311,7 +313,7 @@ pub extern "C" fn tilusorgu_hand_out(
     row: u32,
     out: &mut [u64],
 ) -> u32
-    ensures { HandsOut out result (kind_span (given bytes words) (was rows) row_count (was text) text_count kind row) }
+    ensures { HandsOut out result (kind_span (given bytes words) rows.now row_count text.now text_count kind row) }
 {
     let p = kind_span(
         bytes,
@@ -328,7 +330,7 @@ pub extern "C" fn tilusorgu_hand_out(
 }
 
 // What compare reports: a number and its place, 1 where the trees are equal, and the two rows.
-#[derive(Drop)]
+#[derive(Clone, Copy)]
 pub struct PairReport {
     pub number: u32,
     pub place: usize,
@@ -384,7 +386,7 @@ pub extern "C" fn tilusorgu_compare(
     second: u32,
     out: &mut [u64],
 ) -> u32
-    ensures { ComparesRows out result (comparison (was bytes) (was words) first second) }
+    ensures { ComparesRows out result (comparison bytes.now words.now first second) }
 {
     let r = of_compared(comparison::compare(bytes, words, first as usize, second as usize));
     put_words(

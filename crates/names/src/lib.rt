@@ -1,4 +1,6 @@
 // Names, constants and literals to documents.
+#![tactic(auto)]
+
 pub mod components;
 pub mod literals;
 pub mod names;

@@ -13,14 +13,14 @@ use pool::fields;
 use pool::tables::Tables;
 
 // What a short search tells: 0 that the variable does not occur, 1 that it does, 2 nothing, for want of steps; and the steps left.
-#[derive(Drop)]
+#[derive(Clone, Copy)]
 pub struct Tried {
     pub answer: usize,
     pub left: usize,
 }
 
 // The same search in a number of steps, and with no table.
-#[cycle(try_part_try_row)]
+#[cycle(try_row)]
 fn try_row(
     bytes: &[u8],
     names: &[u32],
@@ -59,7 +59,7 @@ fn try_row(
     try_part(bytes, names, words, t, body, i + 1, b.left)
 }
 
-#[cycle(try_part_try_row)]
+#[cycle(try_row)]
 fn try_part(
     bytes: &[u8],
     names: &[u32],
@@ -82,7 +82,7 @@ fn try_part(
 }
 
 // The search with no end to its steps, for rows past every array of a sweep: an accepted pool has none.
-#[cycle(look_search)]
+#[cycle(search)]
 fn search(bytes: &[u8], names: &[u32], words: &[u32], t: Tables, r: usize, i: usize) -> bool
     requires { (Ready bytes.now names.now words.now t) × (r < E words.now) }
     ensures { result ≡ occurs i (expr_at (lent bytes names words) r) }
@@ -108,7 +108,7 @@ fn search(bytes: &[u8], names: &[u32], words: &[u32], t: Tables, r: usize, i: us
 }
 
 // A part that is not there has no variable.
-#[cycle(look_search)]
+#[cycle(search)]
 fn look(bytes: &[u8], names: &[u32], words: &[u32], t: Tables, part: usize, i: usize) -> bool
     requires { (Ready bytes.now names.now words.now t) × (part ≤ E words.now) }
     ensures { result ≡ occurs_at (lent bytes names words) i part }

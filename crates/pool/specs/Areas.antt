@@ -1,6 +1,6 @@
 -- What the code knows of the tables: the counts and where each table starts, read off the head words once.
 use Rattle.std.specs.Prelude.{ℕ, ◌<◌, List, ◌≡◌}
-use Rattle.basics.specs.Lent.{Area, Slice}
+use Rattle.basics.specs.Lent.{Shared, Slice, held}
 use Rattle.pool.specs.declared.tables.Tables.{Tables}
 use Rattle.pool.specs.Tables.{Pool, S, N, L, K, Q, E, D, names_at, levels_at, lists_at, list_words_at, exprs_at, declars_at, total}
 
@@ -9,8 +9,8 @@ abbrev pub over : List ℕ → List ℕ → List ℕ → Pool
 over bs ns ws = record { bytes = bs; names = ns; words = ws }
 
 -- the pool that a function is lent, in an `ensures`
-abbrev pub lent : Area → Area → Area → Pool
-lent bytes names words = over bytes.entry.now names.entry.now words.entry.now
+abbrev pub lent : Shared → Shared → Shared → Pool
+lent bytes names words = over (held bytes) (held names) (held words)
 
 -- the same in a `requires`
 abbrev pub given : Slice → Slice → Slice → Pool

@@ -1,4 +1,6 @@
 // The pool: tables of words, their fields, and the trees that rows unfold to.
+#![tactic(auto)]
+
 pub mod fields;
 pub mod kinds;
 pub mod strings;

@@ -4,7 +4,7 @@ ghost use Rattle.pool.specs.Tables.{string_word, name_word, level_word, list_wor
 ghost use Rattle.pool.specs.Areas.{NamesOf, WordsOf, TablesOf};
 
 // The counts of the rows, where the tables start, and where the last one ends. The strings start at word 7.
-#[derive(Drop)]
+#[derive(Clone, Copy)]
 pub struct Tables {
     pub strings: usize,
     pub names: usize,

@@ -3,7 +3,6 @@ use Prim.Native.Nat.{ℕ, zero, suc, ◌+◌, ◌≤◌, ◌<◌}
 use native.Mathlib.Omega.{arith}
 use mathlib.Core.Bool.{Bool, true, false, cond}
 use mathlib.Core.List.{List, [], ◌∷◌}
-use mathlib.Core.Logic.{⊎_elim}
 use mathlib.Core.Path.{◌≡◌, refl, ap, ◌∙◌}
 use lib.Dec.{leb, ltb, eqb}
 use lib.ListN.{length}
@@ -16,9 +15,6 @@ use Rattle.pool.specs.Sound.{Sound}
 use Rattle.byte_check.specs.Scan.{first_bad}
 use Rattle.pool_check.specs.Check.{number, is_accepted, in_table, refusal, words_ok, limits_ok, rows_verdict, verdict}
 use Rattle.basics.proofs.Booleans.{and_left, and_right, false-true}
-use types.Run.{OneOf}
-use denote.Enum.Declared.{tag_of}
-use Rattle.pool_check.specs.contracts.Verdict as the-verdicts
 
 -- the words are as many as the head says, and the counts and the byte area are within their limits
 pub record Limited (bs ws : List ℕ) : Type 0 where
@@ -131,10 +127,9 @@ accepted-is (Strings row) e = false-true e
 accepted-is (Rows row) e = false-true e
 
 -- what the code's last arm knows: the verdict is none of the cases before it
-pub refused-is : (v : Verdict) → OneOf (1 ∷ 2 ∷ 3 ∷ 4 ∷ []) (tag_of the-verdicts.the_type v) → false ≡ is_accepted v
+pub refused-is : (v : Verdict) → (v ≡ Accepted → ⊥) → false ≡ is_accepted v
 unfolding is_accepted number
-refused-is Accepted other = absurd
-    (⊎_elim (λ e. omega arith) (⊎_elim (λ e. omega arith) (⊎_elim (λ e. omega arith) (λ e. omega arith))) other)
+refused-is Accepted other = absurd (other refl)
 refused-is Words other = refl
 refused-is Limit other = refl
 refused-is (Strings row) other = refl

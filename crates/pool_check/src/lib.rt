@@ -1,4 +1,6 @@
 // Check: whether a pool keeps document 01's rules (numbers 1 to 4).
+#![tactic(auto)]
+
 mod declars;
 mod levels;
 mod lists;
@@ -15,7 +17,7 @@ use expr_check::exprs::first_bad_expr;
 use pool::tables::{Tables, tables_of};
 
 // What check finds: a pool is accepted, or refused under one of 01's numbers 1 to 4.
-#[derive(Drop)]
+#[derive(Clone, Copy)]
 pub enum Verdict {
     Accepted,
     // 1: the words are short of the head, or their total is wrong.

@@ -14,7 +14,7 @@ use pool::kinds::{NAME_ANONYMOUS, NAME_NUMBER, NAME_STRING};
 use pool::tables::Tables;
 
 // What a row's kind asks: whether its fields are right, and its depth.
-#[derive(Drop)]
+#[derive(Clone, Copy)]
 pub struct AskedName {
     pub right: bool,
     pub depth: usize,

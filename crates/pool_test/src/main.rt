@@ -1,5 +1,7 @@
 // Runs check on the pools of its standard input, and writes each case's title with the number and the place that it answers; then every
 // code point at which the letterlike classes change, with its class. The file stdout has what 01 says.
+#![tactic(auto)]
+
 mod letters;
 
 use libc::{STDIN_FILENO, STDOUT_FILENO};

@@ -19,7 +19,7 @@ use Rattle.binders.specs.Rename.{rename, lifted}
 use Rattle.binders.specs.Scopes.{place_in, Linked, scoped, Chained}
 use Rattle.binders.specs.Steps.{first_binder, in_run, run_length, in_group, group_length}
 use Rattle.binders.proofs.RenameLaws.{rename_composes, lift_renames, rename_forgets, rename-same}
-use Rattle.binders.proofs.ScopeLaws.{place_rises, place_out, chain_length}
+use Rattle.binders.proofs.ScopeLaws.{place_rises, place_out, chain_length_lem}
 
 -- ---- lists
 
@@ -178,7 +178,7 @@ module _ (p : Pool) (k : Stack) (linked : Linked k) (i₀ u₀ : Bool) (n₀ : N
   group-length zero j h m (pi q a s u b) ch b₀ f = refl
   group-length (suc n) j h m (pi q a s u b) ch b₀ f =
       let x : Binder = record { is_pi = true; used = occurs 0 b; name = a; style = s; type = rename (place_in k h) u; place = q } in
-      let len : length (scoped k (suc m) (suc m) b) + suc m ≡ k.count = chain_length p k (suc m) (suc m) b ch.2 in
+      let len : length (scoped k (suc m) (suc m) b) + suc m ≡ k.count = chain_length_lem p k (suc m) (suc m) b ch.2 in
       let next : (i : ℕ) → place_in k (suc m) (i + suc j) ≡ place_in k h₀ i =
       λ i. ap (place_in k (suc m)) (add-suc i j) ∙ place_out k m (i + j) ∙ ap (λ (y : ℕ). place_in k y (i + j)) ch.0 ∙ f i in
       rw (type-same h j u b₀ f)
@@ -187,7 +187,7 @@ module _ (p : Pool) (k : Stack) (linked : Linked k) (i₀ u₀ : Bool) (n₀ : N
   group-length zero j h m (lam q a s u b) ch b₀ f = refl
   group-length (suc n) j h m (lam q a s u b) ch b₀ f =
       let x : Binder = record { is_pi = false; used = occurs 0 b; name = a; style = s; type = rename (place_in k h) u; place = q } in
-      let len : length (scoped k (suc m) (suc m) b) + suc m ≡ k.count = chain_length p k (suc m) (suc m) b ch.2 in
+      let len : length (scoped k (suc m) (suc m) b) + suc m ≡ k.count = chain_length_lem p k (suc m) (suc m) b ch.2 in
       let next : (i : ℕ) → place_in k (suc m) (i + suc j) ≡ place_in k h₀ i =
       λ i. ap (place_in k (suc m)) (add-suc i j) ∙ place_out k m (i + j) ∙ ap (λ (y : ℕ). place_in k y (i + j)) ch.0 ∙ f i in
       rw (type-same h j u b₀ f)

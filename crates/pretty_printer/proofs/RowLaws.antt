@@ -32,7 +32,7 @@ use Rattle.pretty_printer.specs.Parts.{in_scope, app_part, chain_part, groups_pa
 use Rattle.binders.specs.Leaves.{leaf_kind, leaf_doc}
 use Rattle.pieces.specs.Puts.{end_proj, start_let, put_assign, end_let}
 use Rattle.binders.specs.Steps.{level_of}
-use Rattle.binders.proofs.ScopeLaws.{push-named, chain_length}
+use Rattle.binders.proofs.ScopeLaws.{push-named, chain_length_lem}
 use Rattle.binders.proofs.ViewLaws.{BinderRow, binder_at, binder_row, length_made, run_starts}
 use Rattle.binders.proofs.BinderLaws.{first_at_lem}
 use Rattle.binders.proofs.DropLaws.{Later, later_some, length-scoped, run-within, group-within}
@@ -206,7 +206,7 @@ module _ {bs ns ws : List ℕ} {t : Tables} {k : Stack} {h m r : ℕ} (c : InCha
   chain_later n x next some few tree low nexts =
       let l : Later pᶜ k h m n e = later_some pᶜ k h m n e some few in
       let ch : Chained pᶜ k (m + n) (m + n) (drop_chain n e) = l.chained c.chained in
-      let len : length (scoped k (m + n) (m + n) (drop_chain n e)) + (m + n) ≡ k.count = chain_length pᶜ k (m + n) (m + n) (drop_chain n e) ch in
+      let len : length (scoped k (m + n) (m + n) (drop_chain n e)) + (m + n) ≡ k.count = chain_length_lem pᶜ k (m + n) (m + n) (drop_chain n e) ch in
       record {
         asked = record { pool = c.asked.pool; held = c.asked.held; scope = rw nexts (omega arith); row = omega (arith, c.asked.row) };
         chained = rw (nexts, tree) ch;
@@ -215,7 +215,7 @@ module _ {bs ns ws : List ℕ} {t : Tables} {k : Stack} {h m r : ℕ} (c : InCha
   -- the chain's first names are on the stack
   pub chain_room : (n : ℕ) → n ≤ chain_length e → m + n ≤ k.count
   chain_room n few =
-      let len : length (scoped k h m e) + m ≡ k.count = chain_length pᶜ k h m e c.chained in
+      let len : length (scoped k h m e) + m ≡ k.count = chain_length_lem pᶜ k h m e c.chained in
       omega (arith, len, length-scoped k h m e)
 
   module _ (opts : PpOptions) where

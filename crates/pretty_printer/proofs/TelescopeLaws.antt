@@ -22,7 +22,7 @@ use Rattle.binders.specs.Steps.{first_binder, group_length, drop_chain, chain_le
 use Rattle.pieces.specs.Puts.{end_group, put_colon, open_group, close_group}
 use Rattle.pretty_printer.specs.Parts.{printed, in_scope, groups_part}
 use Rattle.binders.proofs.RunLaws.{runs_are_leading, runs_of_none}
-use Rattle.binders.proofs.ScopeLaws.{chain_length, place_out}
+use Rattle.binders.proofs.ScopeLaws.{chain_length_lem, place_out}
 use Rattle.pretty_printer.proofs.ChainLaws.{leading_takes, following_drops, group-length}
 use Rattle.pretty_printer.proofs.EmitLaws.{telescope_puts, group_puts}
 use Rattle.binders.proofs.ViewLaws.{first_made, scoped_made, drop_made, chained_parts}
@@ -83,7 +83,7 @@ module _ (opts : PpOptions) (p : Pool) (k : Stack) (linked : Linked k) (i : Bool
   parts = chained_parts p k h m i q a s t b chained
 
   inner : suc m ≤ k.count
-  inner = let l : length (scoped k (suc m) (suc m) b) + suc m ≡ k.count = chain_length p k (suc m) (suc m) b parts.2 in omega arith
+  inner = let l : length (scoped k (suc m) (suc m) b) + suc m ≡ k.count = chain_length_lem p k (suc m) (suc m) b parts.2 in omega arith
 
   counted : length (leading (same_group x) (take n xs)) ≡ g
   counted =

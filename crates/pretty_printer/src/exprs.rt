@@ -33,7 +33,7 @@ use pool::fields::{
 use pool::kinds::{EXPR_APP, EXPR_LET, EXPR_PI, EXPR_PROJ, EXPR_VAR};
 
 // The expression at row r, in a scope of the stack, under a level.
-#[cycle(pp_app_pp_binders_pp_chain_pp_expr_pp_let_pp_let_body_pp_let_head_telescope)]
+#[cycle(exprs)]
 pub fn pp_expr(
     bytes: &[u8],
     names: &[u32],
@@ -77,7 +77,7 @@ pub fn pp_expr(
 }
 
 // An application: its head and its arguments, tiled. What has no parts is printed here: each call that is handed the stack copies it.
-#[cycle(pp_app_pp_binders_pp_chain_pp_expr_pp_let_pp_let_body_pp_let_head_telescope)]
+#[cycle(exprs)]
 fn pp_app(
     bytes: &[u8],
     names: &[u32],
@@ -127,7 +127,7 @@ fn pp_app(
 }
 
 // A let.
-#[cycle(pp_app_pp_binders_pp_chain_pp_expr_pp_let_pp_let_body_pp_let_head_telescope)]
+#[cycle(exprs)]
 fn pp_let(
     bytes: &[u8],
     names: &[u32],
@@ -155,7 +155,7 @@ fn pp_let(
 }
 
 // Its name, type and value, up to the break.
-#[cycle(pp_app_pp_binders_pp_chain_pp_expr_pp_let_pp_let_body_pp_let_head_telescope)]
+#[cycle(exprs)]
 fn pp_let_head(
     bytes: &[u8],
     names: &[u32],
@@ -188,7 +188,7 @@ fn pp_let_head(
 }
 
 // Its body, before which its name comes into force.
-#[cycle(pp_app_pp_binders_pp_chain_pp_expr_pp_let_pp_let_body_pp_let_head_telescope)]
+#[cycle(exprs)]
 fn pp_let_body(
     bytes: &[u8],
     names: &[u32],
@@ -225,7 +225,7 @@ fn pp_let_body(
 }
 
 // A chain: its names come into force before its binders.
-#[cycle(pp_app_pp_binders_pp_chain_pp_expr_pp_let_pp_let_body_pp_let_head_telescope)]
+#[cycle(exprs)]
 fn pp_chain(
     bytes: &[u8],
     names: &[u32],
@@ -300,7 +300,7 @@ pub fn pp_tail(
 
 // A part of a chain, an arrow binder or a run of others, and what follows it: its names are on the stack from entry m on, and its first
 // type is in a scope.
-#[cycle(pp_app_pp_binders_pp_chain_pp_expr_pp_let_pp_let_body_pp_let_head_telescope)]
+#[cycle(exprs)]
 fn pp_binders(
     bytes: &[u8],
     names: &[u32],
@@ -356,7 +356,7 @@ fn pp_binders(
 }
 
 // The groups of n binders, tiled; after the first, each is a further one of the tile.
-#[cycle(pp_app_pp_binders_pp_chain_pp_expr_pp_let_pp_let_body_pp_let_head_telescope)]
+#[cycle(exprs)]
 pub fn telescope(
     bytes: &[u8],
     names: &[u32],

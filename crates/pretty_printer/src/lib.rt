@@ -1,2 +1,4 @@
 // Expressions to documents.
+#![tactic(auto)]
+
 pub mod exprs;

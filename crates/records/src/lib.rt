@@ -1,5 +1,7 @@
 // A test's input: words of four bytes, the low byte first, and runs of bytes that start at a word. A record starts at a word, and its
 // own words are counted from there. What is not there is 0 or empty, so that callers need no facts.
+#![tactic(auto)]
+
 use std::num::wrapping_add_usize;
 
 fn joined(a: u8, b: u8, c: u8, d: u8) -> u32 {

@@ -1,6 +1,8 @@
 // Prints again what the published Rust, edited as document 02 asks, printed: its standard input is the corpus of recorded prints. Each
 // print is called in ample areas, in areas of the exact length and in areas one short, and the first of a pool also with what is refused
 // before anything is printed. Writes how many calls were as recorded, and which were not.
+#![tactic(auto)]
+
 mod areas;
 mod calls;
 mod record;

@@ -1,13 +1,13 @@
 -- A run as the contract of a function speaks of it: what the references of its call were, and are.
 use Rattle.std.specs.Prelude.{ℕ, true, ◌≡◌}
-use Rattle.basics.specs.Lent.{Area}
+use Rattle.basics.specs.Lent.{Area, Shared}
 use Rattle.lister.specs.declared.Answer.{Answer}
 use Rattle.lister.specs.Frames.{given, lent_areas, left_areas}
 use Rattle.lister.specs.Prints.{sizes_ok}
 use Rattle.third_property.specs.ThirdProperty.{Print, Run, Rooted, OneRun}
 use Rattle.third_property.specs.Success.{Decided}
 
-abbrev pub run_with : (k : Print) → Area → Area → ℕ → ℕ → ℕ → Area → Area → Area → Answer → Run k
+abbrev pub run_with : (k : Print) → Shared → Shared → ℕ → ℕ → ℕ → Area → Area → Area → Answer → Run k
 run_with k bytes words root indent width rows text listing v =
     record {
       source = given bytes words;

@@ -1,5 +1,7 @@
 // The third property is one of the calls: what holds of one call of each print, and of two calls, whatever they are given and lent. And the
 // two layouts agree.
+#![tactic(auto)]
+
 ghost use Rattle.std.specs.Prelude.{◌≡◌};
 ghost use Rattle.basics.specs.Lent.{was, left};
 ghost use Rattle.layout_pending.specs.Agreement.{Agree};
@@ -11,7 +13,7 @@ use layout_pending::LaidPending;
 use lister::{Answer, print_declar, print_expr};
 
 // What two calls answer.
-#[derive(Drop)]
+#[derive(Clone, Copy)]
 pub struct Answers {
     pub first: Answer,
     pub second: Answer,
@@ -108,7 +110,7 @@ pub fn declar_twice(
 }
 
 // What the two layouts answer.
-#[derive(Drop)]
+#[derive(Clone, Copy)]
 pub struct Layouts {
     pub first: Laid,
     pub second: LaidPending,

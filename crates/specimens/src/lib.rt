@@ -1,1 +1,3 @@
 // 01's starred specimens, proved of the definitions.
+#![tactic(auto)]
+

@@ -1,4 +1,6 @@
 // UTF-8 of a byte slice, its code points, and the letterlike classes of a code point.
+#![tactic(auto)]
+
 pub mod letterlike;
 pub mod ranges;
 mod scan;

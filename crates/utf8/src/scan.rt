@@ -8,7 +8,7 @@ use basics::bools::{both, either};
 use basics::numbers::less_u32;
 
 // What is known between two bytes.
-#[derive(Drop)]
+#[derive(Clone, Copy)]
 pub(crate) struct Scan {
     // How many bytes still belong to a code point, its bits so far, and the least that needs so many bytes.
     pub(crate) need: u32,

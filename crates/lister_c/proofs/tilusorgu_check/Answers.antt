@@ -1,0 +1,10 @@
+use Rattle.lister_c.proofs.Answers.{check-answer}
+use Rattle.lister_c.proofs.tilusorgu_check.Goals as goal
+
+pub returns : goal.returns
+returns c = 
+    check-answer
+    c.args.out.now
+    c.check.ensures
+    c.of_verdict-report.ensures
+    c.fill.ensures

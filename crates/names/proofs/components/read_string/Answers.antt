@@ -1,0 +1,7 @@
+use Rattle.pool.specs.Tables.{string_at}
+use native.Mathlib.Nat.{add-sub_cancel_left}
+use Rattle.names.proofs.components.read_string.Goals as goal
+
+pub returns : goal.returns
+unfolding string_at
+returns c = rw (c.string_word-from.ensures.0, c.string_word.ensures.0, add-sub_cancel_left)
