@@ -1,3 +1,2 @@
 // 01's starred specimens, proved of the definitions.
 #![tactic(auto)]
-

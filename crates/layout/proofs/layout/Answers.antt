@@ -4,12 +4,12 @@ use Rattle.layout.proofs.Answers.{answer-listed, means_of}
 use Rattle.layout.proofs.layout.Goals as goal
 
 pub layout_accepted-requires : goal.layout_accepted-requires
-layout_accepted-requires c = 
+layout_accepted-requires c =
     let a = c.args in
     means_of a.rows.now a.count a.text.now a.total a.width c.in-Admitted.is c.check_given.ensures
 
 pub returns-in-Admitted : goal.returns-in-Admitted
-returns-in-Admitted c = 
+returns-in-Admitted c =
     let a = c.args in
     let admitted = means_of a.rows.now a.count a.text.now a.total a.width c.in-Admitted.is c.check_given.ensures in
     c.layout_accepted.ensures ∙ answer-listed a.rows.now a.count a.text.now a.total a.width admitted.0.counts admitted.0.faultless a.listing.now
@@ -17,12 +17,12 @@ returns-in-Admitted c =
 
 pub returns-in-Document : goal.returns-in-Document
 unfolding untouched
-returns-in-Document c = 
+returns-in-Document c =
     let a = c.args in
     means_of a.rows.now a.count a.text.now a.total a.width c.in-Document.is c.check_given.ensures a.listing.now
 
 pub returns-in-Width : goal.returns-in-Width
 unfolding untouched
-returns-in-Width c = 
+returns-in-Width c =
     let a = c.args in
     means_of a.rows.now a.count a.text.now a.total a.width c.in-Width.is c.check_given.ensures a.listing.now

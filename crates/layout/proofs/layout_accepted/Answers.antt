@@ -9,13 +9,13 @@ use Rattle.layout.proofs.Answers.{whole_room, whole_emitted, reported-listed}
 use Rattle.layout.proofs.layout_accepted.Goals as goal
 
 pub lay_out-last-requires : goal.lay_out-last-requires
-lay_out-last-requires c = 
+lay_out-last-requires c =
     let a = c.args in
     subst (λ (s : Cursor). Room a.rows.now a.text.now (a.count - 1) a.width 0 0 s) (sym c.start-start.ensures)
     (whole_room a.rows.now a.count a.text.now a.total a.width c.requires.0 c.requires.1)
 
 pub returns : goal.returns
-returns c = 
+returns c =
     let a = c.args in
     let rows = a.rows.now in
     let text = a.text.now in

@@ -8,7 +8,7 @@ use Rattle.layout.proofs.Answers.{accepted-given, reported-listed}
 use Rattle.layout_pending.proofs.layout_accepted.Goals as goal
 
 pub lay_out_pending-last-requires : goal.lay_out_pending-last-requires
-lay_out_pending-last-requires c = 
+lay_out_pending-last-requires c =
     let a = c.args in
     let pre = c.requires in
     record {
@@ -20,7 +20,7 @@ lay_out_pending-last-requires c =
     }
 
 pub returns : goal.returns
-returns c = 
+returns c =
     let a = c.args in
     let laid = c.lay_out_pending-last in
     let ps = pieces a.width (doc_of a.rows.now a.count a.text.now) in (

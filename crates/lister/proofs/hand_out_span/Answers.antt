@@ -4,14 +4,14 @@ use Rattle.lister.proofs.hand_out_span.Goals as goal
 
 pub returns-in-Text : goal.returns-in-Text
 unfolding span_of
-returns-in-Text c = 
+returns-in-Text c =
     let a = c.args in
     c.text_span.ensures ∙ sym
     (ap (span_of (record { bytes = a.bytes.now; words = a.words.now }) a.rows.now a.count a.text.now a.total) c.in-Text.is)
 
 pub returns-in-String : goal.returns-in-String
 unfolding span_of
-returns-in-String c = 
+returns-in-String c =
     let a = c.args in
     c.string_span.ensures ∙ sym
     (ap (span_of (record { bytes = a.bytes.now; words = a.words.now }) a.rows.now a.count a.text.now a.total) c.in-String.is)

@@ -7,7 +7,7 @@ use Rattle.lister.proofs.print_declar.Goals as goal
 
 pub returns-then-not-may_print : goal.returns-then-not-may_print
 unfolding print_declar
-returns-then-not-may_print c = 
+returns-then-not-may_print c =
     let a = c.args in
     let source : Source = record { bytes = a.bytes.now; words = a.words.now } in
     let areas : Areas = record { rows = a.rows.now; text = a.text.now; listing = a.listing.now } in
@@ -17,7 +17,7 @@ returns-then-not-may_print c =
     c.if-not-may_print.true _ _ areas c.refusal.ensures
 
 pub print_checked_declar-requires : goal.print_checked_declar-requires
-print_checked_declar-requires c = 
+print_checked_declar-requires c =
     let a = c.args in
     let source : Source = record { bytes = a.bytes.now; words = a.words.now } in
     begins-call source c.tables_of-t.result a.root (D a.words.now) c.tables_of-t.result.declars a.indent a.width
@@ -27,7 +27,7 @@ print_checked_declar-requires c =
 
 pub returns : goal.returns
 unfolding print_declar
-returns c = 
+returns c =
     let a = c.args in
     let source : Source = record { bytes = a.bytes.now; words = a.words.now } in
     let areas : Areas = record { rows = a.rows.now; text = a.text.now; listing = a.listing.now } in

@@ -2,7 +2,7 @@ use Rattle.lister_c.proofs.Answers.{check-answer}
 use Rattle.lister_c.proofs.tilusorgu_check.Goals as goal
 
 pub returns : goal.returns
-returns c = 
+returns c =
     check-answer
     c.args.out.now
     c.check.ensures

@@ -2,5 +2,5 @@ use Rattle.lister_c.proofs.Answers.{compare-answer}
 use Rattle.lister_c.proofs.tilusorgu_compare.Goals as goal
 
 pub returns : goal.returns
-returns c = 
+returns c =
     compare-answer c.args.out.now c.compare.ensures c.of_compared-r.ensures c.put_words.ensures

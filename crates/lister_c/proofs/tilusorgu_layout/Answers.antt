@@ -2,7 +2,7 @@ use Rattle.lister_c.proofs.Answers.{layout-answer}
 use Rattle.lister_c.proofs.tilusorgu_layout.Goals as goal
 
 pub returns : goal.returns
-returns c = 
+returns c =
     layout-answer
     c.args.out.now
     c.layout.ensures

@@ -2,5 +2,5 @@ use Rattle.lister_c.proofs.Answers.{print-answer}
 use Rattle.lister_c.proofs.tilusorgu_print_declar.Goals as goal
 
 pub returns : goal.returns
-returns c = 
+returns c =
     print-answer c.args.out.now c.print_declar.ensures c.of_answer-report.ensures c.fill.ensures

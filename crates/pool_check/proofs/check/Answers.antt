@@ -2,17 +2,17 @@ use Rattle.pool_check.proofs.Verdicts.{verdict-words, verdict_limit, verdict-row
 use Rattle.pool_check.proofs.check.Goals as goal
 
 pub returns-then-not-both : goal.returns-then-not-both
-returns-then-not-both c = 
+returns-then-not-both c =
     verdict-words c.args.bytes.now c.args.words.now _ c.tables_of-t.ensures _ c.both.ensures c.if-not-both.true
 
 pub returns-then-not-limits_ok : goal.returns-then-not-limits_ok
-returns-then-not-limits_ok c = 
+returns-then-not-limits_ok c =
     verdict_limit c.args.bytes.now c.args.words.now _ c.tables_of-t.ensures _
     c.both.ensures c.if-not-both.false _ c.limits_ok.ensures
     c.if-not-limits_ok.true
 
 pub returns : goal.returns
-returns c = 
+returns c =
     verdict-rows c.args.bytes.now c.args.words.now _ c.tables_of-t.ensures _ c.both.ensures
     c.if-not-both.false _ c.limits_ok.ensures c.if-not-limits_ok.false _
     c.check_rows.ensures

@@ -5,7 +5,7 @@ use Rattle.runs.proofs.declar_once.Goals as goal
 
 pub returns : goal.returns
 unfolding call
-returns c = 
+returns c =
     record {
       property = (third_property declaration).one _ c.print_declar.ensures;
       decided = λ rooted ok. decided _ c.print_declar.ensures rooted ok;

@@ -4,5 +4,5 @@ use Rattle.runs.proofs.declar_twice.Goals as goal
 
 pub returns : goal.returns
 unfolding call
-returns c = 
+returns c =
     (third_property declaration).two _ _ c.print_declar-first.ensures c.print_declar-second.ensures

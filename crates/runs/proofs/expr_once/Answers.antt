@@ -5,7 +5,7 @@ use Rattle.runs.proofs.expr_once.Goals as goal
 
 pub returns : goal.returns
 unfolding call
-returns c = 
+returns c =
     record {
       property = (third_property expression).one _ c.print_expr.ensures;
       decided = λ rooted ok. decided _ c.print_expr.ensures rooted ok;

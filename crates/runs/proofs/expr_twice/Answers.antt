@@ -4,5 +4,5 @@ use Rattle.runs.proofs.expr_twice.Goals as goal
 
 pub returns : goal.returns
 unfolding call
-returns c = 
+returns c =
     (third_property expression).two _ _ c.print_expr-first.ensures c.print_expr-second.ensures

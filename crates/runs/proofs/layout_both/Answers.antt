@@ -4,7 +4,7 @@ use Rattle.layout_pending.proofs.Answers.{layouts_agree}
 use Rattle.runs.proofs.layout_both.Goals as goal
 
 pub returns : goal.returns
-returns c = 
+returns c =
     let a = c.args in
     λ alike.
     layouts_agree a.rows.now a.count a.text.now a.total a.width a.pending.now a.listing.now _ _ _ _ _ c.layout-first.ensures

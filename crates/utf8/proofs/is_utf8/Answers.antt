@@ -7,5 +7,5 @@ pub loop-i-init : goal.loop-i-init
 loop-i-init c = rw c.start-state.ensures (omega arith, ready-start, utf8-start _)
 
 pub returns : goal.returns
-returns c = 
+returns c =
     utf8_end c.args.s.now c.loop-i.i c.loop-i.state.need c.loop-i.state.bits c.loop-i.state.least _ c.loop-i-test.false c.loop-i.invariant.2

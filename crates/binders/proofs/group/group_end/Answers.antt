@@ -5,11 +5,11 @@ use Rattle.binders.proofs.GroupingLaws.{group-row, grouping_start, grouping_bind
 use Rattle.binders.proofs.group.group_end.Goals as goal
 
 pub loop-j-init : goal.loop-j-init
-loop-j-init c = 
+loop-j-init c =
     λ sound. grouping_start _ sound _ _ _ _ c.requires.1 c.requires.2 c.requires.3 _ c.binder_body-at.ensures.0
 
 pub in_group-requires : goal.in_group-requires
-in_group-requires c = 
+in_group-requires c =
     let g = (c.loop-j.invariant c.requires.0.ready.sound) in (
       c.requires.0,
       g.row,
@@ -20,18 +20,18 @@ in_group-requires c =
     )
 
 pub returns-then-not-in_group : goal.returns-then-not-in_group
-returns-then-not-in_group c = 
+returns-then-not-in_group c =
     let g = (c.loop-j.invariant c.requires.0.ready.sound) in
     group-ended _ c.requires.0.ready.sound _ _ c.requires.1 c.requires.2 c.requires.3 _ _ _ _ c.binder_style-style.ensures.0 c.binder_type-like.ensures.0
     (grouping_done _ c.requires.0.ready.sound _ _ _ _ _ _ g (omega arith) _ c.in_group.ensures c.if-not-in_group.true) g.tree g.low
 
 pub loop-j-preserved : goal.loop-j-preserved
-loop-j-preserved c = 
+loop-j-preserved c =
     λ sound. grouping_next _ sound _ _ _ _ _ _ (c.loop-j.invariant sound) (omega arith) _ c.in_group.ensures
     c.if-not-in_group.false _ c.binder_body-at-in-loop-j.ensures.0
 
 pub returns : goal.returns
-returns c = 
+returns c =
     let g = (c.loop-j.invariant c.requires.0.ready.sound) in
     group-ended _ c.requires.0.ready.sound _ _ c.requires.1 c.requires.2 c.requires.3 _ _ _ _
     c.binder_style-style.ensures.0 c.binder_type-like.ensures.0

@@ -4,11 +4,11 @@ use Rattle.binders.proofs.NamingLaws.{some_binder, fewer-left, lower_row, next-n
 use Rattle.binders.proofs.group.put_next_names.Goals as goal
 
 pub put_next_name-o-requires : goal.put_next_name-o-requires
-put_next_name-o-requires c = 
+put_next_name-o-requires c =
     (c.requires.0, c.loop-left.invariant.0, (some_binder _ c.requires.0.ready.sound _ c.loop-left.invariant.0 _ (omega arith) c.loop-left.invariant.1))
 
 pub loop-left-preserved : goal.loop-left-preserved
-loop-left-preserved c = 
+loop-left-preserved c =
     let low = lower_row _ c.requires.0.ready.sound _ c.loop-left.invariant.0
     (some_binder _ c.requires.0.ready.sound _ c.loop-left.invariant.0 _ (omega arith) c.loop-left.invariant.1) _
     c.binder_body-at.ensures.0 in (

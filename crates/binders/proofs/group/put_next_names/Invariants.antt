@@ -10,7 +10,7 @@ use Rattle.binders.specs.Steps.{chain_length, name_docs}
 use Rattle.binders.proofs.group.put_next_names.Given as goal
 
 abbrev pub invariant-loop-left : goal.invariant-loop-left
-invariant-loop-left l = 
+invariant-loop-left l =
     (l.at < E l.words) × (l.left ≤ chain_length (expr_at (over l.bytes l.names l.words) l.at)) × (length l.rows ≡ length l.initial.rows) × (length l.text ≡ length l.initial.text)
     × (put_tile (name_docs l.left (expr_at (over l.bytes l.names l.words) l.at)) (state l.rows l.text l.o) ≡ put_tile (name_docs l.n (expr_at (over l.bytes l.names l.words) l.r)) (state l.initial.rows l.initial.text l.initial.o))
 

@@ -10,14 +10,14 @@ pub returns-then-s-ne0 : goal.returns-then-s-ne0
 returns-then-s-ne0 c = sym (emit-stopped _ (state _ _ _) (ne_eqb _ 0 c.if-s-ne0.true))
 
 pub returns-then-is_hidden : goal.returns-then-is_hidden
-returns-then-is_hidden c = 
+returns-then-is_hidden c =
     c.put_word.ensures ∙ hidden_name _ c.requires.0.ready.sound _ c.requires.1 c.requires.2 _ _ c.is_hidden.ensures c.if-is_hidden.true
 
 pub pp_name_safe-requires : goal.pp_name_safe-requires
-pp_name_safe-requires c = 
+pp_name_safe-requires c =
     let row = binder_here _ c.requires.0.ready.sound _ c.requires.1 c.requires.2 in (c.requires.0.ready, omega (arith, row.name, c.binder_name-name.ensures.0))
 
 pub returns : goal.returns
-returns c = 
+returns c =
     c.pp_name_safe.ensures ∙ shown-name _ c.requires.0.ready.sound _ c.requires.1 c.requires.2 _ _ _ c.binder_name-name.ensures.0
     c.is_hidden.ensures c.if-is_hidden.false

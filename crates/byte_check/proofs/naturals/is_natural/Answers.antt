@@ -2,10 +2,10 @@ use Rattle.byte_check.proofs.NaturalLaws.{natural-empty, natural_by}
 use Rattle.byte_check.proofs.naturals.is_natural.Goals as goal
 
 pub returns-then-to-from : goal.returns-then-to-from
-returns-then-to-from c = 
+returns-then-to-from c =
     natural-empty c.args.bytes.now c.args.from c.args.to c.if-to-from.true
 
 pub returns : goal.returns
-returns c = 
+returns c =
     rw (c.both.ensures, c.either.ensures)
     (natural_by c.args.bytes.now c.args.from c.args.to c.args.run c.requires.0 c.requires.1 c.if-to-from.false)

@@ -10,7 +10,7 @@ use native.Mathlib.Omega.{arith}
 use Rattle.byte_check.proofs.naturals.mark_naturals.Goals as goal
 
 pub loop-r-preserved : goal.loop-r-preserved
-loop-r-preserved c = 
+loop-r-preserved c =
     let room : c.loop-r.r < length c.loop-r.marks = omega
     (arith, c.requires.1, c.requires.0.strings, c.loop-r.invariant.0, c.loop-r.invariant.1, c.loop-r-test.true) in (
       omega arith,

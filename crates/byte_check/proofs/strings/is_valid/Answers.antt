@@ -5,22 +5,22 @@ use mathlib.Core.Path.{sym, ap, ◌∙◌}
 use Rattle.byte_check.proofs.strings.is_valid.Goals as goal
 
 pub returns-then-to-from : goal.returns-then-to-from
-returns-then-to-from c = 
+returns-then-to-from c =
     valid-none c.args.bytes.now c.args.from c.args.to (omega (arith, c.if-to-from.true))
 
 pub returns-then-is_follower : goal.returns-then-is_follower
-returns-then-is_follower c = 
+returns-then-is_follower c =
     valid-inside-point c.args.bytes.now c.args.from c.args.to c.if-to-from.false c.requires.1 (sym c.is_follower.ensures ∙ c.if-is_follower.true)
 
 pub returns-then-to-known : goal.returns-then-to-known
-returns-then-to-known c = 
+returns-then-to-known c =
     ap not c.is_follower-then-to-known.ensures
     ∙ valid-within c.args.bytes.now c.args.from c.args.to c.args.known c.requires.0
     (sym c.is_follower.ensures ∙ c.if-is_follower.false)
     c.if-to-from.false c.if-to-known.true
 
 pub returns : goal.returns
-returns c = 
+returns c =
     c.is_utf8.ensures ∙ c.ascii_end-rest.ensures.1
     ∙ valid_past c.args.bytes.now c.args.from c.args.to c.args.known c.requires.0 (sym c.is_follower.ensures ∙ c.if-is_follower.false)
     c.if-to-from.false c.larger-unread.result c.if-to-known.false (omega (arith, c.larger-unread.ensures))

@@ -4,7 +4,7 @@ use Rattle.compare.proofs.SeenLaws.{holds-none}
 use Rattle.compare.proofs.levels.level_all.Goals as goal
 
 pub level-requires : goal.level-requires
-level-requires c = 
+level-requires c =
     record {
       ready = c.requires.0;
       a_row = c.requires.1;

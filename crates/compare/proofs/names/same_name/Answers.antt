@@ -3,30 +3,30 @@ use Rattle.compare.proofs.NameLaws.{kinds_differ, both_roots, same_row, ends-dif
 use Rattle.compare.proofs.names.same_name.Goals as goal
 
 pub returns-then-kind-name_kind : goal.returns-then-kind-name_kind
-returns-then-kind-name_kind c = 
+returns-then-kind-name_kind c =
     kinds_differ _ _ _ _ _ _ c.requires.0 c.loop-x.invariant.0 c.loop-x.invariant.1 _ c.loop-x.invariant.2 _ _
     c.name_kind-kind.ensures.0 c.name_kind.ensures.0 c.if-kind-name_kind.true
 
 pub returns-then-kind-eq-NAME_ANONYMOUS : goal.returns-then-kind-eq-NAME_ANONYMOUS
-returns-then-kind-eq-NAME_ANONYMOUS c = 
+returns-then-kind-eq-NAME_ANONYMOUS c =
     both_roots _ _ _ _ _ _ c.requires.0 c.loop-x.invariant.0 c.loop-x.invariant.1 _ c.loop-x.invariant.2 _ _
     c.name_kind-kind.ensures.0 c.name_kind.ensures.0 c.if-kind-name_kind.false c.if-kind-eq-NAME_ANONYMOUS.true
 
 pub returns-then-not-same_end : goal.returns-then-not-same_end
-returns-then-not-same_end c = 
+returns-then-not-same_end c =
     ends-differ _ _ _ _ _ _ _
     (two-names _ _ _ _ _ _ _ _ c.requires.0 c.loop-x.invariant.0 c.loop-x.invariant.1 c.name_kind-kind.ensures.0
     c.name_kind.ensures.0 c.if-kind-name_kind.false c.if-kind-eq-NAME_ANONYMOUS.false) _
     c.same_end.ensures c.if-not-same_end.true _ c.loop-x.invariant.2
 
 pub loop-x-smaller : goal.loop-x-smaller
-loop-x-smaller c = 
+loop-x-smaller c =
     let two = two-names _ _ _ _ _ _ _ _ c.requires.0 c.loop-x.invariant.0 c.loop-x.invariant.1 c.name_kind-kind.ensures.0
     c.name_kind.ensures.0 c.if-kind-name_kind.false c.if-kind-eq-NAME_ANONYMOUS.false in
     omega (arith, (prefixes _ _ _ _ _ _ _ two).0, c.name_prefix-x.ensures.0)
 
 pub loop-x-preserved : goal.loop-x-preserved
-loop-x-preserved c = 
+loop-x-preserved c =
     let two = two-names _ _ _ _ _ _ _ _ c.requires.0 c.loop-x.invariant.0 c.loop-x.invariant.1 c.name_kind-kind.ensures.0
     c.name_kind.ensures.0 c.if-kind-name_kind.false c.if-kind-eq-NAME_ANONYMOUS.false in (
       omega (
@@ -47,5 +47,5 @@ loop-x-preserved c =
     )
 
 pub returns : goal.returns
-returns c = 
+returns c =
     same_row _ _ _ _ _ _ c.requires.0 c.loop-x.invariant.0 c.loop-x.invariant.1 _ c.loop-x.invariant.2 c.loop-x-test.false

@@ -2,5 +2,5 @@ use Rattle.compare.proofs.NameLaws.{strings-same}
 use Rattle.compare.proofs.names.same_string.Goals as goal
 
 pub returns-then-a-b : goal.returns-then-a-b
-returns-then-a-b c = 
+returns-then-a-b c =
     strings-same c.args.bytes.now c.args.names.now c.args.a c.args.b c.if-a-b.true

@@ -2,7 +2,7 @@ use Rattle.declarations.proofs.DeclarLaws.{axiom_rest_lem}
 use Rattle.declarations.proofs.declars.axiom_rest.Goals as goal
 
 pub returns : goal.returns
-returns c = 
+returns c =
     rw (
       c.put_nest.ensures,
       c.put_group-s-2.ensures,

@@ -2,7 +2,7 @@ use Rattle.declarations.proofs.DeclarLaws.{rest-none, rest_some}
 use Rattle.declarations.proofs.declars.def_rest.Goals as goal
 
 pub returns-then-count-eq0 : goal.returns-then-count-eq0
-returns-then-count-eq0 c = 
+returns-then-count-eq0 c =
     rw (
       c.join_word-s-2.ensures,
       c.join_word-s.ensures,
@@ -12,7 +12,7 @@ returns-then-count-eq0 c =
     ) (rest-none _ _ _ _ _ _ _ c.if-count-eq0.true c.requires.row_in_chain.1)
 
 pub returns : goal.returns
-returns c = 
+returns c =
     rw (
       c.put_group.ensures,
       c.join_word-s-2.ensures,

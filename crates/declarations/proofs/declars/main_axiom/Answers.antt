@@ -8,17 +8,17 @@ use Rattle.declarations.proofs.DeclarLaws.{declared_row, axiom_stops, axiom_goes
 use Rattle.declarations.proofs.declars.main_axiom.Goals as goal
 
 pub chain_length-length-requires : goal.chain_length-length-requires
-chain_length-length-requires c = 
+chain_length-length-requires c =
     let row = declared_row c.requires in (c.requires.pool, omega (arith, row.type, c.declar_type-type_row.ensures.0))
 
 pub returns-then-s-ne0 : goal.returns-then-s-ne0
-returns-then-s-ne0 c = 
+returns-then-s-ne0 c =
     let e = c.put_names-s.ensures ∙ ap (put_names _ _) c.pp_declar_head-s.ensures in e
     ∙ axiom_stops c.requires _ _ _ c.declar_type-type_row.ensures.0 c.chain_length-length.ensures.0 _ (ap (λ
     (st : State). eqb (sink_of st).stop 0) (sym e) ∙ ne_eqb _ 0 c.if-s-ne0.true)
 
 pub chain_stack-k-requires : goal.chain_stack-k-requires
-chain_stack-k-requires c = 
+chain_stack-k-requires c =
     let fits = names_fit _ _ _ (ap (λ (st : State). eqb (sink_of st).stop 0) (sym c.put_names-s.ensures) ∙ eq-eqb _ 0 c.if-s-ne0.false) in
     let row = declared_row c.requires in (
       c.requires.pool,
@@ -28,7 +28,7 @@ chain_stack-k-requires c =
     )
 
 pub axiom_rest-s-requires : goal.axiom_rest-s-requires
-axiom_rest-s-requires c = 
+axiom_rest-s-requires c =
     let few = run_fits _ _ _ _ c.run_end-end.ensures in
     record {
       r_in_chain = (c.chain_stack-k.ensures, few.0);
@@ -40,7 +40,7 @@ axiom_rest-s-requires c =
     }
 
 pub returns : goal.returns
-returns c = 
+returns c =
     rw (
       c.put_join.ensures,
       c.axiom_rest-s.ensures,

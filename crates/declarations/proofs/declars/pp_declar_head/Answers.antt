@@ -3,11 +3,11 @@ use Rattle.declarations.proofs.DeclarLaws.{declared_row, head_puts}
 use Rattle.declarations.proofs.declars.pp_declar_head.Goals as goal
 
 pub put_word-s-requires : goal.put_word-s-requires
-put_word-s-requires c = 
+put_word-s-requires c =
     let row = declared_row c.requires in omega (arith, row.kind, c.declar_kind.ensures.0)
 
 pub returns : goal.returns
-returns c = 
+returns c =
     rw (
       c.join_word.ensures,
       c.put_join-s.ensures,

@@ -2,5 +2,5 @@ use Rattle.difference.proofs.ClassLaws.{united}
 use Rattle.difference.proofs.classes.unite.Goals as goal
 
 pub returns : goal.returns
-returns c = 
+returns c =
     united _ _ _ _ _ _ _ c.find-a.ensures c.find-b.ensures _ _ _ c.larger.ensures c.lesser.ensures c.keep.ensures

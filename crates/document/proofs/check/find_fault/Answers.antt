@@ -10,11 +10,11 @@ pub loop-i-init : goal.loop-i-init
 loop-i-init c = (omega arith, text-none c.args.rows.now, omega arith, scan-start _ _ _)
 
 pub returns-then-not-row_ok : goal.returns-then-not-row_ok
-returns-then-not-row_ok c = 
+returns-then-not-row_ok c =
     fault-here _ _ _ _ c.loop-i-test.true (ok_is _ _ _ _ _ c.loop-i.invariant.1 c.row_ok.ensures ∙ c.if-not-row_ok.true) c.loop-i.invariant.3
 
 pub loop-i-preserved : goal.loop-i-preserved
-loop-i-preserved c = 
+loop-i-preserved c =
     let l = c.loop-i in (
       omega arith,
       text-next _ _ _ _ l.invariant.1 c.own_text-before.ensures.0,
@@ -25,7 +25,7 @@ loop-i-preserved c =
     )
 
 pub returns-then-both : goal.returns-then-both
-returns-then-both c = 
+returns-then-both c =
     let a = c.args in
     let l = c.loop-i in
     ap (λ (b : Bool). cond b a.count (a.count - 1)) (sym c.if-both.true)
@@ -34,7 +34,7 @@ returns-then-both c =
     c.both.ensures
 
 pub returns-else-both : goal.returns-else-both
-returns-else-both c = 
+returns-else-both c =
     let a = c.args in
     let l = c.loop-i in
     let less = c.less-last in

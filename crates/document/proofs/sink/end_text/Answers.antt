@@ -4,6 +4,6 @@ use Rattle.document.proofs.Areas.{text-row}
 use Rattle.document.proofs.sink.end_text.Goals as goal
 
 pub returns : goal.returns
-returns c = 
+returns c =
     let a = c.args in
     c.put_row.ensures ∙ text-row (state a.rows.now a.text.now a.s) _ _ _ _ c.less-size.ensures c.low.ensures c.low-2.ensures

@@ -3,5 +3,5 @@ use Rattle.document.proofs.sink.put_break.Goals as goal
 
 pub returns : goal.returns
 unfolding put_break
-returns c = 
+returns c =
     c.put_row.ensures

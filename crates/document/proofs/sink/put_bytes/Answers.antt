@@ -9,11 +9,11 @@ use Rattle.document.proofs.Areas.{bytes_one, bytes_fit, further}
 use Rattle.document.proofs.sink.put_bytes.Goals as goal
 
 pub returns-then-count-eq1 : goal.returns-then-count-eq1
-returns-then-count-eq1 c = 
+returns-then-count-eq1 c =
     c.put_byte.ensures ∙ bytes_one (state c.args.rows.now c.args.text.now c.args.s) c.args.bytes.now c.if-count-eq1.true
 
 pub returns : goal.returns
-returns c = 
+returns c =
     let a = c.args in
     let e = c.room.ensures in
     let h : length a.bytes.now ≤ room_of a.s (length a.text.now) = omega (arith, e) in

@@ -8,7 +8,7 @@ use borrow.Author.Rules.{rules}
 use Rattle.document.proofs.sink.put_each.Goals as goal
 
 pub loop-i-preserved : goal.loop-i-preserved
-loop-i-preserved c = 
+loop-i-preserved c =
     let a = c.args in
     let l = c.loop-i in (
       search rules,
@@ -19,6 +19,6 @@ loop-i-preserved c =
     )
 
 pub returns : goal.returns
-returns c = 
+returns c =
     let l = c.loop-i in
     sym (bytes_end (state l.rows l.text l.o) c.args.bytes.now l.i c.loop-i-test.false) ∙ l.invariant.3

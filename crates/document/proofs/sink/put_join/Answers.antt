@@ -9,7 +9,7 @@ use Rattle.document.proofs.sink.put_join.Goals as goal
 
 pub returns : goal.returns
 unfolding put_join
-returns c = 
+returns c =
     let a = c.args in
     let last = c.less-last.ensures in
     let right = c.measures_at-right.ensures.0 ∙ ap (measures_at a.rows.now) last in

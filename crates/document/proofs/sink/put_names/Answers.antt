@@ -8,5 +8,5 @@ returns-then-count-le1024 c = simp (le-leb _ _ c.if-count-le1024.true)
 
 pub returns : goal.returns
 unfolding put_names
-returns c = 
+returns c =
     rw (lt-leb _ _ c.if-count-le1024.false) c.refuse.ensures

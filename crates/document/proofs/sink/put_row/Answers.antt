@@ -16,6 +16,6 @@ unfolding put_row
 returns-then-rows-at c = rw (eq-eqb _ _ c.if-s-ne0.false, lt-ltb _ _ c.if-written-ge16384.false, lt-leb _ _ c.if-rows-at.true, c.stopped_at-then-rows-at.ensures)
 
 pub returns : goal.returns
-returns c = 
+returns c =
     row-stored _ _ _ _ _ _ _ c.if-s-ne0.false c.if-written-ge16384.false c.if-rows-at.false _ _ _ _ c.low-count.ensures
     c.low-flat.ensures c.low-first.ensures c.low-has.ensures

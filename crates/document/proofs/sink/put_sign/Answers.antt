@@ -4,5 +4,5 @@ use Rattle.document.proofs.sink.put_sign.Goals as goal
 
 pub returns : goal.returns
 unfolding put_text put_bytes
-returns c = 
+returns c =
     c.end_text.ensures ∙ ap (end_text c.args.s.text) c.put_byte-o.ensures

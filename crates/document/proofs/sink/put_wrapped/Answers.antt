@@ -8,7 +8,7 @@ use Rattle.document.proofs.sink.put_wrapped.Goals as goal
 
 pub returns : goal.returns
 unfolding put_wrapped
-returns c = 
+returns c =
     let a = c.args in
     c.put_row.ensures
     ∙ ap (λ (m : Measures). put_row a.kind a.a 0 m (state a.rows.now a.text.now a.s))

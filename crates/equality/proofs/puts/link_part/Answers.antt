@@ -11,5 +11,5 @@ pub returns-then-y-eq0-2 : goal.returns-then-y-eq0-2
 returns-then-y-eq0-2 c = link_second_alone _ _ _ c.if-x-eq0.false c.if-y-eq0-2.true
 
 pub returns-then-link : goal.returns-then-link
-returns-then-link c = 
+returns-then-link c =
     link_both _ _ _ c.if-x-eq0.false c.if-y-eq0-2.false _ (c.link.ensures c.if-link.true)

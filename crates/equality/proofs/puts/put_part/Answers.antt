@@ -11,5 +11,5 @@ pub returns-then-y-eq0-2 : goal.returns-then-y-eq0-2
 returns-then-y-eq0-2 c = put_second_alone _ _ _ _ c.if-x-eq0.false c.if-y-eq0-2.true
 
 pub returns-then-put : goal.returns-then-put
-returns-then-put c = 
+returns-then-put c =
     put_both _ _ _ _ c.if-x-eq0.false c.if-y-eq0-2.false _ _ (c.put.ensures c.if-put.true)

@@ -8,7 +8,7 @@ pub loop-i-init : goal.loop-i-init
 loop-i-init c = (sym (paint-nil _ 0), refl)
 
 pub loop-i-preserved : goal.loop-i-preserved
-loop-i-preserved c = 
+loop-i-preserved c =
     let L = c.loop-i in
     (copy_turn _ _ _ _ L.invariant.0 L.invariant.1 c.loop-i-test.true c.if-i-bytes.true, simp length-set L.invariant.1)
 

@@ -3,7 +3,7 @@ use Rattle.layout.proofs.Painting.{part_back, paint_past}
 use Rattle.layout.proofs.area.copy_at.Goals as goal
 
 pub returns-then-position-area : goal.returns-then-position-area
-returns-then-position-area c = 
+returns-then-position-area c =
     let a = c.args in
     part_back a.area.now a.position a.bytes.now c.copy.new.area c.copy.ensures
 

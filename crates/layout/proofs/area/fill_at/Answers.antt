@@ -4,7 +4,7 @@ use Rattle.layout.proofs.Painting.{part_back, paint_past}
 use Rattle.layout.proofs.area.fill_at.Goals as goal
 
 pub returns-then-position-area : goal.returns-then-position-area
-returns-then-position-area c = 
+returns-then-position-area c =
     let a = c.args in
     part_back a.area.now a.position (replicate a.n a.b) c.fill.new.area c.fill.ensures
 

@@ -7,7 +7,7 @@ use mathlib.Core.Path.{◌≡◌}
 use Rattle.levels.proofs.levels.level_succs.Given as goal
 
 abbrev pub invariant-loop-t : goal.invariant-loop-t
-invariant-loop-t l = 
+invariant-loop-t l =
     (l.at < L l.words) × (l.at + l.n ≤ l.r) × (succs_par (level_at (over l.bytes l.names l.words) l.at) l.n ≡ succs_par (level_at (over l.bytes l.names l.words) l.r) 0)
 
 abbrev pub decreases-loop-t : goal.decreases-loop-t

@@ -4,17 +4,16 @@ use native.Mathlib.Omega.{arith}
 use Rattle.levels.proofs.levels.pp_levels.Goals as goal
 
 pub pp_level-s-requires : goal.pp_level-s-requires
-pp_level-s-requires c = 
-    (
-      c.requires.0,
-      rw c.list_entry-first.ensures.0
-          (entry-below c.args.bytes.now c.args.names.now c.args.words.now c.args.t c.requires.0 c.args.from (omega
-          (arith, c.requires.1, c.requires.2))),
-      omega arith,
-    )
+pp_level-s-requires c = (
+  c.requires.0,
+  rw c.list_entry-first.ensures.0
+      (entry-below c.args.bytes.now c.args.names.now c.args.words.now c.args.t c.requires.0 c.args.from (omega
+      (arith, c.requires.1, c.requires.2))),
+  omega arith,
+)
 
 pub returns : goal.returns
-returns c = 
+returns c =
     rw (
       c.put_group.ensures,
       c.join_word-s.ensures,

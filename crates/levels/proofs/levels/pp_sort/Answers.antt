@@ -6,7 +6,7 @@ use mathlib.Core.Path.{sym, ◌∙◌}
 use Rattle.levels.proofs.levels.pp_sort.Goals as goal
 
 pub put_sort-requires : goal.put_sort-requires
-put_sort-requires c = 
+put_sort-requires c =
     let b : c.level_first-below.result < c.args.r = rw c.level_first-below.ensures.0
     (succ_below c.args.bytes.now c.args.names.now c.args.words.now c.args.r
     (level_row c.args.bytes.now c.args.names.now c.args.words.now c.args.t c.requires.0 c.args.r c.requires.1)
@@ -14,14 +14,14 @@ put_sort-requires c =
     (c.requires.0, omega (arith, c.requires.1), omega arith)
 
 pub returns-then-level_kind-eq-LEVEL_SUCC : goal.returns-then-level_kind-eq-LEVEL_SUCC
-returns-then-level_kind-eq-LEVEL_SUCC c = 
+returns-then-level_kind-eq-LEVEL_SUCC c =
     rw (c.put_sort.ensures, c.level_first-below.ensures.0)
     (sort-type c.args.bytes.now c.args.names.now c.args.words.now c.args.r
     (level_row c.args.bytes.now c.args.names.now c.args.words.now c.args.t c.requires.0 c.args.r c.requires.1)
     (sym c.level_kind.ensures.0 ∙ c.if-level_kind-eq-LEVEL_SUCC.true) (state c.args.rows.now c.args.text.now c.args.s))
 
 pub returns : goal.returns
-returns c = 
+returns c =
     c.put_sort-2.ensures
     ∙ sort-sort c.args.bytes.now c.args.names.now c.args.words.now c.args.r (level_row c.args.bytes.now
     c.args.names.now c.args.words.now c.args.t c.requires.0 c.args.r c.requires.1) (λ e. c.if-level_kind-eq-LEVEL_SUCC.false

@@ -6,16 +6,15 @@ use mathlib.Core.Path.{sym, ◌∙◌}
 use Rattle.levels.proofs.levels.put_next_levels.Goals as goal
 
 pub put_next_level-o-requires : goal.put_next_level-o-requires
-put_next_level-o-requires c = 
-    (
-      c.requires.0,
-      rw c.list_entry-level.ensures.0
-          (entry-below c.args.bytes.now c.args.names.now c.args.words.now c.args.t c.requires.0 c.loop-i.i (omega
-          (arith, c.loop-i-test.true, c.requires.2))),
-    )
+put_next_level-o-requires c = (
+  c.requires.0,
+  rw c.list_entry-level.ensures.0
+      (entry-below c.args.bytes.now c.args.names.now c.args.words.now c.args.t c.requires.0 c.loop-i.i (omega
+      (arith, c.loop-i-test.true, c.requires.2))),
+)
 
 pub loop-i-preserved : goal.loop-i-preserved
-loop-i-preserved c = 
+loop-i-preserved c =
     let l = c.loop-i in (
       omega (arith, c.loop-i-test.true),
       c.put_next_level-o.auto.rows ∙ l.invariant.1,
@@ -29,6 +28,6 @@ loop-i-preserved c =
     )
 
 pub returns : goal.returns
-returns c = 
+returns c =
     let l = c.loop-i in
     sym (tile_end c.args.bytes.now c.args.names.now c.args.words.now l.i c.args.to (state l.rows l.text l.o) c.loop-i-test.false) ∙ l.invariant.3

@@ -10,7 +10,7 @@ use mathlib.Core.Path.{◌≡◌}
 use Rattle.levels.proofs.levels.put_next_levels.Given as goal
 
 abbrev pub invariant-loop-i : goal.invariant-loop-i
-invariant-loop-i l = 
+invariant-loop-i l =
     (l.i ≤ l.to) × (length l.rows ≡ length l.initial.rows) × (length l.text ≡ length l.initial.text)
     × (put_tile (map shown (levels_from (over l.bytes l.names l.words) l.i (l.to - l.i))) (state l.rows l.text l.o) ≡ put_tile
     (map shown (levels_from (over l.bytes l.names l.words) l.from (l.to - l.from))) (state l.initial.rows l.initial.text l.initial.o))

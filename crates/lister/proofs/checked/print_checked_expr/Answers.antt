@@ -11,7 +11,7 @@ use Rattle.lister.proofs.Finishing.{walk_from, walk-accepted, walk-finished}
 use Rattle.lister.proofs.checked.print_checked_expr.Goals as goal
 
 pub finish-requires : goal.finish-requires
-finish-requires c = 
+finish-requires c =
     let a = c.args in
     let m : Marked = expr_doc (indented a.indent) (expr_at (over a.bytes.now a.names.now a.words.now) a.root) in
     let areas : Areas = record { rows = a.rows.now; text = a.text.now; listing = a.listing.now } in
@@ -21,7 +21,7 @@ finish-requires c =
     (walk-accepted m (expr_fine (indented a.indent) c.requires.indent-small _) a.width areas _ walked, c.requires.width_small)
 
 pub returns : goal.returns
-returns c = 
+returns c =
     let a = c.args in
     let m : Marked = expr_doc (indented a.indent) (expr_at (over a.bytes.now a.names.now a.words.now) a.root) in
     let areas : Areas = record { rows = a.rows.now; text = a.text.now; listing = a.listing.now } in

@@ -3,5 +3,5 @@ use Rattle.lister.proofs.handing.has_string.Goals as goal
 
 pub returns : goal.returns
 unfolding has_string
-returns c = 
+returns c =
     rw (c.both.ensures, c.is_accepted.ensures, c.check.ensures, c.tables_of-t.ensures.of_names.strings)

@@ -9,6 +9,6 @@ returns-then-not-counts_ok c = first-false _ _ (sym c.counts_ok.ensures ∙ c.if
 
 pub returns : goal.returns
 unfolding has_text
-returns c = 
+returns c =
     first-true _ _ _ (sym c.counts_ok.ensures ∙ c.if-not-counts_ok.false)
     (rw (c.both-2.ensures, c.find_fault.ensures, c.both.ensures, c.word_at.ensures.0))

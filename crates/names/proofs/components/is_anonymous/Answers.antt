@@ -2,7 +2,7 @@ use Rattle.names.proofs.Rows.{name-row, anonymous_by}
 use Rattle.names.proofs.components.is_anonymous.Goals as goal
 
 pub returns : goal.returns
-returns c = 
+returns c =
     rw c.name_kind.ensures.0
     (anonymous_by c.args.bytes.now c.args.names.now c.args.words.now c.args.r
     (name-row c.args.bytes.now c.args.names.now c.args.words.now c.args.t c.requires.0 c.args.r c.requires.1))

@@ -8,5 +8,5 @@ returns-then-s-ne4 c = not_same c.args.s.now (bytes "_hyg") c.if-s-ne4.true
 
 pub returns : goal.returns
 unfolding bytes encode
-returns c = 
+returns c =
     rw (c.both-3.ensures, c.both.ensures, c.both-2.ensures) (four_same c.args.s.now 95 104 121 103 c.if-s-ne4.false)

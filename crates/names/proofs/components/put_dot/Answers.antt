@@ -8,5 +8,5 @@ returns-then-s-from c = simp (eq-eqb _ _ c.if-s-from.true)
 
 pub returns : goal.returns
 unfolding put_dot
-returns c = 
+returns c =
     rw (c.put_byte.ensures, ne_eqb _ _ c.if-s-from.false)

@@ -3,5 +3,5 @@ use Rattle.names.proofs.components.put_mark.Goals as goal
 
 pub returns : goal.returns
 unfolding put_bytes
-returns c = 
+returns c =
     rw (c.put_byte.ensures, c.put_byte-s.ensures)

@@ -4,5 +4,5 @@ use Rattle.names.proofs.literals.pp_const.Goals as goal
 
 pub returns : goal.returns
 unfolding emit quoted
-returns c = 
+returns c =
     rw (c.put_join.ensures, c.pp_name_safe-s.ensures, c.put_word-s.ensures)

@@ -4,10 +4,10 @@ use Rattle.document.specs.Sink.{emit}
 use Rattle.names.proofs.literals.pp_nat.Goals as goal
 
 pub read_string-requires : goal.read_string-requires
-read_string-requires c = 
+read_string-requires c =
     string-fits c.args.bytes.now c.args.names.now c.args.words.now c.args.t c.requires.0 c.args.r c.requires.1
 
 pub returns : goal.returns
 unfolding emit string_at
-returns c = 
+returns c =
     rw (c.put_text.ensures, c.read_string.ensures)

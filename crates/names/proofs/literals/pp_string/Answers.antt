@@ -4,5 +4,5 @@ use Rattle.names.proofs.literals.pp_string.Goals as goal
 
 pub returns : goal.returns
 unfolding emit quoted
-returns c = 
+returns c =
     rw (c.join_word.ensures, c.put_join-s.ensures, c.pp_nat-s.ensures, c.put_word-s.ensures)

@@ -8,12 +8,12 @@ pub returns-then-is_anonymous : goal.returns-then-is_anonymous
 returns-then-is_anonymous t c = joined-none _ _ (sym c.is_anonymous.ensures ∙ c.if-is_anonymous.true)
 
 pub returns-then-s-ne0 : goal.returns-then-s-ne0
-returns-then-s-ne0 t c = 
+returns-then-s-ne0 t c =
     let named = sym c.is_anonymous.ensures ∙ c.if-is_anonymous.false in
     joined-stopped _ _ _ (state _ _ _) named c.prefix_of-prefix.ensures.0 c.put_name_bytes-s.ensures (ne_eqb _ 0 c.if-s-ne0.true)
 
 pub returns : goal.returns
-returns t c = 
+returns t c =
     rw (
       c.put_component.ensures,
       c.put_dot-s.ensures,

@@ -7,7 +7,7 @@ use mathlib.Core.Path.{◌≡◌}
 use Rattle.names.proofs.names.has_macro_scopes.Given as goal
 
 abbrev pub invariant-loop-at : goal.invariant-loop-at
-invariant-loop-at l = 
+invariant-loop-at l =
     (l.at < N l.names) × (is_hygienic (name_at (over l.bytes l.names l.words) l.at) ≡ is_hygienic (name_at (over l.bytes l.names l.words) l.r))
 
 abbrev pub decreases-loop-at : goal.decreases-loop-at

@@ -20,7 +20,7 @@ returns-then-kind-lt-EXPR_PI c = rw (ne_eqb _ _ c.if-kind-eq-EXPR_APP.false, ne_
 
 pub returns-then-kind-lt-EXPR_LET : goal.returns-then-kind-lt-EXPR_LET
 unfolding first_part
-returns-then-kind-lt-EXPR_LET c = 
+returns-then-kind-lt-EXPR_LET c =
     rw (
       ne_eqb _ _ c.if-kind-eq-EXPR_APP.false,
       ne_eqb _ _ c.if-kind-eq-EXPR_LET.false,
@@ -33,5 +33,5 @@ returns-then-kind-lt-EXPR_LET c =
 
 pub returns : goal.returns
 unfolding first_part
-returns c = 
+returns c =
     rw (ne_eqb _ _ c.if-kind-eq-EXPR_APP.false, ne_eqb _ _ c.if-kind-eq-EXPR_LET.false, ne_eqb _ _ c.if-kind-eq-EXPR_PROJ.false, le-ltb _ _ c.if-kind-lt-EXPR_PI.false, le-ltb _ _ c.if-kind-lt-EXPR_LET.false)

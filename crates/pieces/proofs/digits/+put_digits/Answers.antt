@@ -4,7 +4,7 @@ use native.Mathlib.Omega.{arith}
 use Rattle.pieces.proofs.digits.+put_digits.Goals as goal
 
 pub returns-then-n-lt10 : goal.returns-then-n-lt10
-returns-then-n-lt10 t c = 
+returns-then-n-lt10 t c =
     rw (
       c.put_byte.ensures,
       c.digit.ensures,
@@ -17,7 +17,7 @@ returns-then-n-lt10 t c =
     )
 
 pub returns : goal.returns
-returns t c = 
+returns t c =
     rw (
       c.put_byte-2.ensures,
       c.put_digits-s.ensures,

@@ -4,5 +4,5 @@ use Rattle.pieces.proofs.digits.put_number.Goals as goal
 
 pub returns : goal.returns
 unfolding emit number_doc put_text
-returns c = 
+returns c =
     rw (c.end_text.ensures, c.put_digits-s.ensures)

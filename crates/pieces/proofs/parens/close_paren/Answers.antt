@@ -3,7 +3,7 @@ use Rattle.pieces.proofs.parens.close_paren.Goals as goal
 
 pub returns-then-b : goal.returns-then-b
 unfolding close_if
-returns-then-b c = 
+returns-then-b c =
     rw (
       c.if-b.true,
       c.join_word.ensures,

@@ -4,7 +4,7 @@ use Rattle.pieces.proofs.puts.end_group.Goals as goal
 
 pub returns : goal.returns
 unfolding end_group
-returns c = 
+returns c =
     rw (
       c.put_nest.ensures,
       c.put_group-s-2.ensures,

@@ -4,7 +4,7 @@ use Rattle.pieces.proofs.puts.end_let.Goals as goal
 
 pub returns : goal.returns
 unfolding end_let join_line join_piece
-returns c = 
+returns c =
     rw (
       c.join_line.ensures,
       c.put_nest-s.ensures,

@@ -4,5 +4,5 @@ use Rattle.pieces.proofs.puts.end_proj.Goals as goal
 
 pub returns : goal.returns
 unfolding end_proj join_piece
-returns c = 
+returns c =
     rw (c.put_join.ensures, c.put_number-s.ensures, c.join_word-s.ensures, c.put_group-s.ensures)

@@ -3,7 +3,7 @@ use Rattle.pieces.proofs.puts.put_arrow.Goals as goal
 
 pub returns : goal.returns
 unfolding put_arrow join_line join_piece
-returns c = 
+returns c =
     rw (
       c.put_group.ensures,
       c.join_line-s.ensures,

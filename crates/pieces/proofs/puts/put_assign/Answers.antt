@@ -4,7 +4,7 @@ use Rattle.pieces.proofs.puts.put_assign.Goals as goal
 
 pub returns : goal.returns
 unfolding put_assign join_line join_piece
-returns c = 
+returns c =
     rw (
       c.join_line.ensures,
       c.join_word-s-2.ensures,

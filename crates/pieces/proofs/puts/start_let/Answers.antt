@@ -4,5 +4,5 @@ use Rattle.pieces.proofs.puts.start_let.Goals as goal
 
 pub returns : goal.returns
 unfolding start_let join_piece
-returns c = 
+returns c =
     rw (c.join_word.ensures, c.put_word-s.ensures)

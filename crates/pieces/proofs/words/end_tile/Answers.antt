@@ -3,7 +3,7 @@ use Rattle.pieces.proofs.words.end_tile.Goals as goal
 
 pub returns : goal.returns
 unfolding end_tile
-returns c = 
+returns c =
     rw (
       c.put_join.ensures,
       c.put_group-grouped.ensures,

@@ -4,12 +4,12 @@ use Rattle.pieces.proofs.words.put_from_table.Goals as goal
 
 pub slice_bounds-put_short-count : goal.slice_bounds-put_short-count
 unfolding starts
-slice_bounds-put_short-count c = 
+slice_bounds-put_short-count c =
     (part c.args.w c.requires).rises
 
 pub returns : goal.returns
 unfolding starts texts bytes encode
-returns c = 
+returns c =
     rw (
       c.put_short.ensures,
       (part

@@ -5,7 +5,7 @@ use Rattle.pool.proofs.strings.string_at.Goals as goal
 
 pub returns : goal.returns
 unfolding string_at
-returns c = 
+returns c =
     λ ws. part_clip c.args.bytes.now (string_word c.args.names.now c.args.r 0)
     (string_word c.args.names.now c.args.r 1) c.lesser-from.result c.lesser-to.result
     (rw (c.lesser-from.ensures, c.string_word-offset.ensures.0))

@@ -6,10 +6,10 @@ use Rattle.pool.proofs.tables.declar_word.Goals as goal
 
 pub returns-then-words-r : goal.returns-then-words-r
 unfolding declar_word
-returns-then-words-r c = 
+returns-then-words-r c =
     word_past c.args.words.now _ _ c.requires.0.declars_at (c.args.r * 5) c.args.k (omega arith)
 
 pub returns : goal.returns
 unfolding declar_word
-returns c = 
+returns c =
     word_read c.args.words.now _ _ c.requires.0.declars_at (c.args.r * 5) c.args.k _ c.word_at.ensures.0 c.word_at.ensures.1

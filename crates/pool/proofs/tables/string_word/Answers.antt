@@ -7,7 +7,7 @@ use Rattle.pool.proofs.tables.string_word.Goals as goal
 
 pub returns-then-names-r : goal.returns-then-names-r
 unfolding string_word
-returns-then-names-r c = 
+returns-then-names-r c =
     let h : length c.args.names.now ≤ 7 + c.args.r * 2 + c.args.k = omega arith in
     (sym (sym (refl) ∙ get_or-eq_default c.args.names.now 0 h), omega arith)
 

@@ -3,7 +3,7 @@ use Rattle.pool_check.proofs.declars.declar_ok.Goals as goal
 
 pub returns : goal.returns
 unfolding declar_ok
-returns c = 
+returns c =
     λ bs. rw (
       c.both-3.ensures,
       c.both-2.ensures,

@@ -5,12 +5,12 @@ use Rattle.pool_check.proofs.levels.level_depth.Goals as goal
 
 pub returns-in-1 : goal.returns-in-1
 unfolding level_depth_by level_kind
-returns-in-1 c = 
+returns-in-1 c =
     rw (← c.level_kind-kind.ensures.0, c.in-1.is, c.byte_at.ensures.0, c.level_first-first.ensures.0)
 
 pub returns-in-2 : goal.returns-in-2
 unfolding level_depth_by level_kind
-returns-in-2 c = 
+returns-in-2 c =
     rw (
       ← c.level_kind-kind.ensures.0,
       c.in-2.is,
@@ -21,7 +21,7 @@ returns-in-2 c =
 
 pub returns-in-3 : goal.returns-in-3
 unfolding level_depth_by level_kind
-returns-in-3 c = 
+returns-in-3 c =
     rw (
       ← c.level_kind-kind.ensures.0,
       c.in-3.is,

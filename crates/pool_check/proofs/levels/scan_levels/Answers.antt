@@ -16,19 +16,19 @@ use native.Mathlib.Omega.{arith}
 use Rattle.pool_check.proofs.levels.scan_levels.Goals as goal
 
 pub returns-then-not-level_fields_ok : goal.returns-then-not-level_fields_ok
-returns-then-not-level_fields_ok c = 
+returns-then-not-level_fields_ok c =
     λ bs. bad_found (level_ok (over bs c.args.names.now c.args.words.now)) _ _ _ c.loop-r-test.true _ refl (c.loop-r.invariant.2 bs)
     (level_bad (over bs c.args.names.now c.args.words.now) _ _ (c.level_fields_ok.ensures bs) c.if-not-level_fields_ok.true)
 
 pub returns-then-depth-gt64 : goal.returns-then-depth-gt64
-returns-then-depth-gt64 c = 
+returns-then-depth-gt64 c =
     λ bs. bad_found (level_ok (over bs c.args.names.now c.args.words.now)) _ _ _ c.loop-r-test.true _ refl (c.loop-r.invariant.2 bs)
     (level_deep (over bs c.args.names.now c.args.words.now) c.loop-r.depths c.loop-r.r
     c.level_depth-depth.result (c.loop-r.invariant.4 bs) (c.loop-r.invariant.3 bs) _
     (c.level_fields_ok.ensures bs) c.if-not-level_fields_ok.false c.level_depth-depth.ensures c.if-depth-gt64.true)
 
 pub loop-r-preserved : goal.loop-r-preserved
-loop-r-preserved c = 
+loop-r-preserved c =
     let room : c.loop-r.r < length c.loop-r.depths = omega
     (arith, c.requires.1, c.requires.0.of_words.levels, c.loop-r.invariant.0, c.loop-r.invariant.1, c.loop-r-test.true) in
     let learnt : (bs : List ℕ) → LevelLearnt (over bs c.args.names.now c.args.words.now) c.loop-r.r
@@ -46,5 +46,5 @@ loop-r-preserved c =
     )
 
 pub returns : goal.returns
-returns c = 
+returns c =
     λ bs. bad_none (level_ok (over bs c.args.names.now c.args.words.now)) _ _ _ c.loop-r.invariant.0 c.loop-r-test.false (c.loop-r.invariant.2 bs)

@@ -7,5 +7,5 @@ pub returns-then-r-eq0 : goal.returns-then-r-eq0
 returns-then-r-eq0 c = rising-start (λ (i : ℕ). list_word c.args.words.now i 0) _ c.if-r-eq0.true
 
 pub returns : goal.returns
-returns c = 
+returns c =
     rw (c.list_offset.ensures.0, c.list_offset-2.ensures.0) (rising_on (λ (i : ℕ). list_word c.args.words.now i 0) c.args.r c.if-r-eq0.false)

@@ -18,19 +18,19 @@ use borrow.Author.Tests.{not-true, not-false}
 use Rattle.pool_check.proofs.names.scan_names.Goals as goal
 
 pub returns-then-not-want : goal.returns-then-not-want
-returns-then-not-want c = 
+returns-then-not-want c =
     λ bs ws. bad_found (name_ok (over bs c.args.names.now ws)) _ _ _ c.loop-r-test.true _ refl (c.loop-r.invariant.2 bs ws)
     (name_bad (over bs c.args.names.now ws) _ _ (ap (λ (w : AskedName). w.right) c.ask_name-want.ensures) (not-true _ c.if-not-want.true))
 
 pub returns-then-want-gt64 : goal.returns-then-want-gt64
-returns-then-want-gt64 c = 
+returns-then-want-gt64 c =
     λ bs ws. bad_found (name_ok (over bs c.args.names.now ws)) _ _ _ c.loop-r-test.true _ refl (c.loop-r.invariant.2 bs ws)
     (name_deep (over bs c.args.names.now ws) c.loop-r.depths c.loop-r.r c.ask_name-want.result.depth c.loop-r.invariant.4 (c.loop-r.invariant.3 bs ws) _
     (ap (λ (w : AskedName). w.right) c.ask_name-want.ensures) (not-false _ c.if-not-want.false) (ap (λ (w : AskedName). w.depth)
     c.ask_name-want.ensures) c.if-want-gt64.true)
 
 pub loop-r-preserved : goal.loop-r-preserved
-loop-r-preserved c = 
+loop-r-preserved c =
     let room : c.loop-r.r < length c.loop-r.depths = omega (arith, c.requires.1, c.requires.0.names, c.loop-r.invariant.0, c.loop-r.invariant.1, c.loop-r-test.true) in
     let learnt : (bs ws : List ℕ) → NameLearnt (over bs c.args.names.now ws) c.loop-r.r c.ask_name-want.result.depth = λ bs
     ws. name_learnt (over bs c.args.names.now ws) c.loop-r.depths c.loop-r.r c.ask_name-want.result.depth c.loop-r.invariant.4 (c.loop-r.invariant.3 bs ws) _
@@ -46,5 +46,5 @@ loop-r-preserved c =
     )
 
 pub returns : goal.returns
-returns c = 
+returns c =
     λ bs ws. bad_none (name_ok (over bs c.args.names.now ws)) _ _ _ c.loop-r.invariant.0 c.loop-r-test.false (c.loop-r.invariant.2 bs ws)

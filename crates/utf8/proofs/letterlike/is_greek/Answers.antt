@@ -3,7 +3,7 @@ use Rattle.utf8.proofs.letterlike.is_greek.Goals as goal
 
 pub returns : goal.returns
 unfolding lower_end upper_end
-returns c = 
+returns c =
     rw (
       c.both.ensures,
       c.either-2.ensures,

@@ -7,7 +7,7 @@ use Rattle.layout.proofs.Painting.{paint-append}
 use Rattle.layout.proofs.cursor.Cursor.newline.Goals as goal
 
 pub returns : goal.returns
-returns c = 
+returns c =
     let s = c.args in
     record {
       cursor = c.moved.ensures;
