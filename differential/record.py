@@ -13,6 +13,10 @@ from generate import Case, name_shape
 from pools import Builder
 
 PATH = os.path.join(rust.HERE, "corpus", "prints.bin")
+# the same bytes, as the standard input of a program: rt follows no link
+INPUT = os.path.join(rust.HERE, "..", "crates", "replay", "stdin")
+# the same bytes, as the standard input of a program: rt follows no link
+INPUT = os.path.join(rust.HERE, "..", "crates", "replay", "stdin")
 MAGIC = struct.unpack("<I", b"TIL1")[0]
 HEAD = 16
 POOL, PRINT = 1, 2
@@ -275,8 +279,9 @@ def main():
             sys.exit("No corpus can be made: %s." % why)
         records = make(program, 4500, 450, 2026)
         os.makedirs(os.path.dirname(PATH), exist_ok=True)
-        with open(PATH, "wb") as f:
-            f.write(file_bytes(records))
+        for path in (PATH, INPUT):
+            with open(path, "wb") as f:
+                f.write(file_bytes(records))
     records = read()
     prints = [p for r in records for p in r.prints]
     print("pools: %d, prints: %d, with document: %d" % (len(records), len(prints), sum(p.rows is not None for p in prints)))
