@@ -1,7 +1,7 @@
 // What a layout answers, as eight numbers: number and place, and the six counts.
 use layout::Laid;
 use layout_pending::LaidPending;
-use libc::STDOUT_FILENO;
+use std::io;
 
 pub fn numbers(a: Laid) -> [usize; 8] {
     match a {
@@ -30,21 +30,17 @@ pub fn numbers_pending(a: LaidPending) -> [usize; 8] {
 }
 
 pub fn same(a: [usize; 8], b: [usize; 8]) -> bool {
-    let mut i: usize = 0;
-    while i < 8 {
+    for i in 0..8usize {
         if a[i] != b[i] {
             return false;
         }
-        i += 1;
     }
     true
 }
 
-pub fn show(a: &[usize]) {
-    let mut i: usize = 0;
-    while i < a.len() {
-        io::write_all(STDOUT_FILENO, b" ");
-        io::print_decimal(STDOUT_FILENO, a[i] as u64);
-        i += 1;
+pub fn show(rt: &impl Print, a: &[usize]) -> io::Result<()> {
+    for n in a {
+        print!(rt; " {n}")?;
     }
+    Ok(())
 }

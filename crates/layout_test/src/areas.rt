@@ -1,6 +1,6 @@
 // The areas that a layout is lent: filled with question marks before a call, and what is written of them after it.
-use libc::STDOUT_FILENO;
 use records::{fill, fill_words, front, holds, holds_words};
+use std::io;
 
 const MARK: u8 = b'?';
 
@@ -21,19 +21,19 @@ pub fn alike(first: &[u8], second: &[u8]) -> bool {
 }
 
 // The first 64 bytes of an area.
-pub fn show_area(area: &[u8]) {
-    io::write_all(STDOUT_FILENO, b"\n");
-    io::write_all(STDOUT_FILENO, front(area, 64));
-    io::write_all(STDOUT_FILENO, b"|\n");
+pub fn show_area(rt: &impl Print, area: &[u8]) -> io::Result<()> {
+    rt.write_all(b"\n")?;
+    rt.write_all(front(area, 64))?;
+    rt.write_all(b"|\n")
 }
 
 // What the whole of a pending area holds: its marks, zeros, or anything else. One of no words has kept them.
-pub fn show_pending(area: &[u32]) {
+pub fn show_pending(rt: &impl Print, area: &[u32]) -> io::Result<()> {
     if holds_words(area, b"", 0, MARKS) {
-        io::write_all(STDOUT_FILENO, b" kept\n");
+        rt.write_all(b" kept\n")
     } else if holds_words(area, b"", 0, 0) {
-        io::write_all(STDOUT_FILENO, b" zero\n");
+        rt.write_all(b" zero\n")
     } else {
-        io::write_all(STDOUT_FILENO, b" other\n");
+        rt.write_all(b" other\n")
     }
 }

@@ -22,10 +22,8 @@ fn put(data: &[u8], code: u8, rows: &mut [u32], text: &mut [u8], s: Sink) -> Sin
 pub fn build(data: &[u8], codes: &[u8], rows: &mut [u32], text: &mut [u8]) -> Sink {
     clear(rows, text);
     let mut s = start();
-    let mut i = 0;
-    while i < codes.len() {
-        s = put(data, codes[i], rows, text, s);
-        i += 1;
+    for code in codes {
+        s = put(data, *code, rows, text, s);
     }
     s
 }

@@ -4,6 +4,8 @@
 // has what 01 and 02 say.
 #![tactic(auto)]
 
+ghost use Rattle.std.specs.Prelude.{◌≤◌, IfOk, length};
+
 mod answers;
 mod areas;
 mod build;
@@ -14,8 +16,9 @@ use basics::bools::both;
 use document::sink::Sink;
 use layout::{Laid, layout};
 use layout_pending::{LaidPending, layout_pending};
-use libc::{STDIN_FILENO, STDOUT_FILENO};
 use records::{bytes, field, word};
+use std::io;
+use std::io::Read;
 
 fn change(rows: &mut [u32], i: usize, v: u32) {
     if i < rows.len() {
@@ -31,9 +34,9 @@ fn made(data: &[u8], at: usize, rows: &mut [u32], text: &mut [u8]) -> Sink {
 }
 
 // Rows and text bytes of a document that was made, and with which refusal.
-fn show_made(s: Sink) {
+fn show_made(rt: &impl Print, s: Sink) -> io::Result<()> {
     let a = [s.rows, s.text, s.stop as usize, s.place];
-    show(&a);
+    show(rt, &a)
 }
 
 fn laid(data: &[u8], at: usize, rows: &[u32], text: &[u8], area: &mut [u8]) -> Laid {
@@ -70,32 +73,40 @@ fn laid_pending(
 }
 
 // A word stands for the second layout's answer and listing where they are the first's, to the last byte of the area.
-fn show_second(a: [usize; 8], b: [usize; 8], first: &[u8], second: &[u8]) {
+fn show_second(
+    rt: &impl Print,
+    a: [usize; 8],
+    b: [usize; 8],
+    first: &[u8],
+    second: &[u8],
+) -> io::Result<()> {
     if both(same(a, b), alike(first, second)) {
-        io::write_all(STDOUT_FILENO, b" same");
+        rt.write_all(b" same")
     } else {
-        show(&b);
-        show_area(second);
+        show(rt, &b)?;
+        show_area(rt, second)
     }
 }
 
 // Makes a case's document and lays it out by the first layout, which gives the numbers.
 fn by_first(
+    rt: &impl Print,
     data: &[u8],
     at: usize,
     rows: &mut [u32],
     text: &mut [u8],
     first: &mut [u8],
-) -> [usize; 8] {
-    show_made(made(data, at, rows, text));
+) -> io::Result<[usize; 8]> {
+    show_made(rt, made(data, at, rows, text))?;
     let a = numbers(laid(data, at, rows, text, first));
-    show(&a);
-    show_area(first);
-    a
+    show(rt, &a)?;
+    show_area(rt, first)?;
+    Ok(a)
 }
 
 // The same document by the second layout, held to the numbers and the area of the first.
 fn by_second(
+    rt: &impl Print,
     data: &[u8],
     at: usize,
     rows: &[u32],
@@ -104,14 +115,15 @@ fn by_second(
     first: &[u8],
     pending: &mut [u32],
     second: &mut [u8],
-) {
+) -> io::Result<()> {
     let b = numbers_pending(laid_pending(data, at, rows, text, pending, second));
-    show_second(a, b, first, second);
-    show_pending(pending);
+    show_second(rt, a, b, first, second)?;
+    show_pending(rt, pending)
 }
 
 // One case; differential/layout_cases.py has the form, and makes the files stdin and stdout.
 fn case(
+    rt: &impl Print,
     data: &[u8],
     at: usize,
     rows: &mut [u32],
@@ -119,14 +131,15 @@ fn case(
     pending: &mut [u32],
     first: &mut [u8],
     second: &mut [u8],
-) {
-    io::write_all(STDOUT_FILENO, bytes(data, at, 10, field(data, at, 2)));
-    let a = by_first(data, at, rows, text, first);
-    by_second(data, at, rows, text, a, first, pending, second);
+) -> io::Result<()> {
+    rt.write_all(bytes(data, at, 10, field(data, at, 2)))?;
+    let a = by_first(rt, data, at, rows, text, first)?;
+    by_second(rt, data, at, rows, text, a, first, pending, second)
 }
 
 // A case in areas of the lengths that it asks for; nothing is written where there is not so much.
 fn case_in(
+    rt: &impl Print,
     data: &[u8],
     at: usize,
     rows: &mut [u32],
@@ -134,13 +147,14 @@ fn case_in(
     pending: &mut [u32],
     first: &mut [u8],
     second: &mut [u8],
-) {
+) -> io::Result<()> {
     let n = field(data, at, 8);
     let p = field(data, at, 9);
     if p <= pending.len() {
         if n <= first.len() {
             if n <= second.len() {
-                case(
+                return case(
+                    rt,
                     data,
                     at,
                     rows,
@@ -152,40 +166,57 @@ fn case_in(
             }
         }
     }
+    Ok(())
 }
 
 fn cases(
+    rt: &impl Print,
     data: &[u8],
     rows: &mut [u32],
     text: &mut [u8],
     pending: &mut [u32],
     first: &mut [u8],
     second: &mut [u8],
-) {
+) -> io::Result<()> {
     let n = field(data, 0, 0);
     let mut at: usize = field(data, 0, 1);
-    let mut i: usize = 0;
-    while i < n {
-        case_in(data, at, rows, text, pending, first, second);
+    for _ in 0..n {
+        case_in(rt, data, at, rows, text, pending, first, second)?;
         at = std::num::wrapping_add_usize(at, 26);
-        i += 1;
     }
+    Ok(())
 }
 
-fn main() {
+// Reads until the area is full or the input ends, and returns how many bytes there were.
+fn read_full(input: &mut impl Read, area: &mut [u8]) -> io::Result<usize>
+    ensures { IfOk result (λ n. n ≤ length area.new) }
+{
+    let mut done = 0;
+    while done < area.len() {
+        let n = input.read(&mut area[done..])?;
+        if n == 0 {
+            break;
+        }
+        done += n;
+    }
+    Ok(done)
+}
+
+fn main(rt: HostRuntime) -> io::Result<()> {
     let mut data = [0u8; 122880];
     let mut rows = [0u32; 114688];
     let mut text = [0u8; 65536];
     let mut pending = [0u32; 65536];
     let mut first = [0u8; 32768];
     let mut second = [0u8; 32768];
-    io::read_full(STDIN_FILENO, &mut data);
+    read_full(&mut rt.reader(), &mut data)?;
     cases(
+        &rt,
         &data,
         &mut rows,
         &mut text,
         &mut pending,
         &mut first,
         &mut second,
-    );
+    )
 }

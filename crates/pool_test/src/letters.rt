@@ -1,6 +1,6 @@
 // Every code point through both letterlike classes.
 use crate::show;
-use libc::STDOUT_FILENO;
+use std::io;
 use utf8::letterlike::{is_letterlike_rest, is_letterlike_start};
 
 // 2 for a start and 1 for a rest.
@@ -18,20 +18,19 @@ fn class(c: u32) -> u64 {
 }
 
 // Shows a code point's class where it is not that of the one before.
-fn change(c: u32, before: u64) -> u64 {
+fn change(rt: &impl Print, c: u32, before: u64) -> io::Result<u64> {
     let k = class(c);
     if k != before {
-        io::write_all(STDOUT_FILENO, b"letterlike class from");
-        show([c as u64, k]);
+        rt.write_all(b"letterlike class from")?;
+        show(rt, [c as u64, k])?;
     }
-    k
+    Ok(k)
 }
 
-pub(crate) fn changes() {
+pub(crate) fn changes(rt: &impl Print) -> io::Result<()> {
     let mut before: u64 = 0;
-    let mut c: u32 = 0;
-    while c < 0x110000 {
-        before = change(c, before);
-        c += 1;
+    for c in 0..0x110000u32 {
+        before = change(rt, c, before)?;
     }
+    Ok(())
 }

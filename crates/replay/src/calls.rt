@@ -42,12 +42,10 @@ fn numbers(a: Answer) -> [usize; 8] {
 }
 
 fn same(a: [usize; 8], b: [usize; 8]) -> bool {
-    let mut i: usize = 0;
-    while i < 8 {
+    for i in 0..8usize {
         if a[i] != b[i] {
             return false;
         }
-        i += 1;
     }
     true
 }

@@ -1,6 +1,6 @@
 // How many calls there were of each kind, and how many were as wanted: two counters a line.
-use libc::STDOUT_FILENO;
 use records::bytes;
+use std::io;
 
 // The lines that are no kind of call.
 const DOCUMENTS: usize = 9;
@@ -31,31 +31,28 @@ pub fn add(counts: &mut [u32; 22], line: usize, right: bool) {
 }
 
 // A line's name has eight letters here: ample and exact areas, number and cause of a refusal, and what is no kind of call.
-fn write_name(line: usize) {
+fn write_name(rt: &impl Print, line: usize) -> io::Result<()> {
     if line < 11 {
         let names =
             b"ample   exact   21 text 20 rows 22 list 5 expr  5 declar6 indent6 width documentpools   ";
-        io::write_all(STDOUT_FILENO, bytes(names, line * 2, 0, 8));
+        rt.write_all(bytes(names, line * 2, 0, 8))?;
     }
+    Ok(())
 }
 
-fn show(counts: &[u32; 22], line: usize) {
+fn show(rt: &impl Print, counts: &[u32; 22], line: usize) -> io::Result<()> {
     if line < 11 {
-        write_name(line);
-        io::write_all(STDOUT_FILENO, b" ");
-        io::print_decimal(STDOUT_FILENO, wide(counts[line * 2 + 1]));
-        io::write_all(STDOUT_FILENO, b" of ");
-        io::print_decimal(STDOUT_FILENO, wide(counts[line * 2]));
-        io::write_all(STDOUT_FILENO, b"\n");
+        write_name(rt, line)?;
+        let right = wide(counts[line * 2 + 1]);
+        let all = wide(counts[line * 2]);
+        println!(rt; " {right} of {all}")?;
     }
+    Ok(())
 }
 
-fn different(counts: &[u32; 22], kind: usize) {
-    io::write_all(STDOUT_FILENO, b"not as recorded: print ");
-    io::print_decimal(STDOUT_FILENO, wide(counts[0]));
-    io::write_all(STDOUT_FILENO, b", kind of call ");
-    io::print_decimal(STDOUT_FILENO, kind as u64);
-    io::write_all(STDOUT_FILENO, b"\n");
+fn different(rt: &impl Print, counts: &[u32; 22], kind: usize) -> io::Result<()> {
+    let print = wide(counts[0]);
+    println!(rt; "not as recorded: print {print}, kind of call {kind}")
 }
 
 fn add_document(counts: &mut [u32; 22], kind: usize, right: bool) {
@@ -65,20 +62,26 @@ fn add_document(counts: &mut [u32; 22], kind: usize, right: bool) {
 }
 
 // Counts a call; one in areas of the exact length also as a document, where the record has it.
-pub fn counted(counts: &mut [u32; 22], kind: usize, right: bool, document: bool) {
+pub fn counted(
+    rt: &impl Print,
+    counts: &mut [u32; 22],
+    kind: usize,
+    right: bool,
+    document: bool,
+) -> io::Result<()> {
     add(counts, kind, right);
     if document {
         add_document(counts, kind, right);
     }
     if !right {
-        different(counts, kind);
+        different(rt, counts, kind)?;
     }
+    Ok(())
 }
 
-pub fn report(counts: &[u32; 22]) {
-    let mut line: usize = 0;
-    while line < 11 {
-        show(counts, line);
-        line += 1;
+pub fn report(rt: &impl Print, counts: &[u32; 22]) -> io::Result<()> {
+    for line in 0..11usize {
+        show(rt, counts, line)?;
     }
+    Ok(())
 }
