@@ -118,7 +118,8 @@ fn library_folders() {
 /// A repository whose `rt` is this shell script: what `build-library` says, kept in the file `messages` of its folder, and how it ends.
 fn built_by(name: &str, rt: &str) -> (String, i32) {
     let place = folder(name);
-    for (path, text) in [("crates.txt", ""), ("crates/c/src/f", ""), ("crates/c/specs/f", ""), ("crates/c/proofs/f", ""), ("bin/rt", rt)] {
+    let crates = ["src/f", "specs/f", "proofs/f", "out/f"].map(|file| format!("crates/lister_c/{file}"));
+    for (path, text) in crates.iter().map(|file| (file.as_str(), "")).chain([("crates.txt", ""), ("bin/rt", rt)]) {
         std::fs::create_dir_all(place.join(path).parent().unwrap()).unwrap();
         std::fs::write(place.join(path), text).unwrap();
     }
@@ -128,7 +129,7 @@ fn built_by(name: &str, rt: &str) -> (String, i32) {
     let path = format!("{}:{}", place.join("bin").display(), std::env::var("PATH").unwrap());
     let messages = std::fs::File::create(place.join("messages")).unwrap();
     let mut build = Command::new(place.join("rust/build-library"));
-    let (output, _, status) = said(build.env("PATH", path).env_remove("TILUSORGU_LIB_DIR").stderr(messages).output().unwrap());
+    let (output, _, status) = said(build.env("PATH", path).env_remove("TILUSORGU_LIB_DIR").env_remove("TILUSORGU_PROVED_SINCE").stderr(messages).output().unwrap());
     assert_eq!(output, "");
     (std::fs::read_to_string(place.join("messages")).unwrap(), status)
 }
@@ -136,21 +137,22 @@ fn built_by(name: &str, rt: &str) -> (String, i32) {
 /// The `rt` here ends once it is said what it is at, and after a minute at the latest: the test waits for what is said, not for a time.
 #[test]
 fn building_is_not_silent() {
-    let rt = "#!/bin/sh\nmkdir -p target/log target/staticlib\necho 'rt: basics proved (2 s)'\necho 'noise'\n>target/log/pool.say\n\
-              for second in $(seq 60); do grep -q 'so far: at pool$' messages && break; sleep 1; done\n\
-              date >target/staticlib/liblister_c.a\n";
+    let rt = "#!/bin/sh\n[ \"$*\" = lib ] || exit 9\necho 'rt: chose --jobs 2 for basics'\necho 'logic=proved functions=7'\necho 'noise'\n\
+              echo 'rt: chose --jobs 2 for pool'\n\
+              for second in $(seq 60); do grep -q 'so far: at pool$' ../../messages && break; sleep 1; done\n\
+              date >out/liblister_c.a\n";
     let _ = std::fs::remove_dir_all(folder("not_silent"));
     let (messages, status) = built_by("not_silent", rt);
     let lines: Vec<&str> = messages.lines().collect();
     assert!(status == 0 && lines.len() >= 4, "{messages}");
     assert!(lines[0].contains("some 10 minutes"), "{messages}");
-    assert_eq!(lines[1], "build-library: basics proved (2 s)");
+    assert!(lines[1].starts_with("build-library: basics proved (") && lines[1].ends_with(" s)"), "{messages}");
     assert!(lines[2].starts_with("build-library: ") && lines[2].ends_with("3 s so far: at pool"), "{messages}");
     assert!(lines.last().unwrap().starts_with("build-library: made target/staticlib/liblister_c.a in "), "{messages}");
     // it is made once
     assert_eq!(built_by("not_silent", rt), (String::new(), 0));
-    let (messages, status) = built_by("not_proved", "#!/bin/sh\necho 'rt: basics NOT PROVED'\nexit 1\n");
-    assert!(messages.contains("\nrt: basics NOT PROVED\nbuild-library: rt did not make the library") && status == 1, "{messages}");
+    let (messages, status) = built_by("not_proved", "#!/bin/sh\necho 'logic=not-proved'\nexit 1\n");
+    assert!(messages.contains("\nlogic=not-proved\nbuild-library: rt did not make the library") && status == 1, "{messages}");
 }
 
 #[test]
