@@ -1,5 +1,5 @@
 /*
- * The statement lister's calls, for C. `rt staticlib lister_c` writes the library, target/staticlib/liblister_c.a (x86-64).
+ * The statement lister's calls, for C. rust/build-library makes the library, target/staticlib/liblister_c.a (x86-64).
  *
  * Slices. A slice is a pointer and, straight after it, a length in elements (not in bytes). The pointer of an empty slice
  * is not read, but it must not be null and must be aligned for its elements.
