@@ -1,10 +1,8 @@
 -- A chain's groups and runs: an instance binder is alone in its group, an arrow binder in its run, and neither a group nor a run
 -- takes in what does not go with its first binder.
-use Prim.Native.Nat.{ℕ}
-use mathlib.Core.Bool.{Bool, true, false, ◌&&◌, ◌||◌, not, cond}
+use mathlib.Core.Bool.{Bool, true, false, cond}
 use mathlib.Core.List.{List, [], ◌∷◌}
-use mathlib.Core.Path.{◌≡◌, refl, ap, ◌∙◌}
-use lib.Dec.{eqb}
+use mathlib.Core.Path.{◌≡◌, refl, ◌∙◌}
 use borrow.Author.Tests.{eq-eqb}
 use Rattle.binders.specs.Runs.{leading, following, runs}
 use Rattle.binders.specs.Binders.{Binder, same_group, goes_along, is_named_pi, is_arrow}

@@ -1,9 +1,7 @@
 -- Laws of renaming: they agree where the renamings do, compose, and `lift` is one.
-use Prim.Native.Nat.{ℕ, zero, suc, ◌+◌, ◌<◌, ◌≤◌, max}
+use Prim.Native.Nat.{ℕ, zero, suc, ◌+◌}
 use native.Mathlib.Omega.{arith}
-use native.Mathlib.Nat.{add-suc, zero-add, suc-add}
-use mathlib.Core.Bool.{Bool, true, false, ◌&&◌, ◌||◌, cond}
-use mathlib.Core.List.{List, [], ◌∷◌}
+use mathlib.Core.Bool.{Bool, true, false, cond}
 use mathlib.Core.Path.{◌≡◌, refl, sym, ap, ap₂, ◌∙◌, fun_ext}
 use lib.Dec.{ltb, eqb, leb-zero, leb-suc-suc, leb-suc-zero, eqb-suc-suc, eqb-zero-suc, eqb-suc-zero}
 use Rattle.pool.specs.Tree.{Expr, var, sort, const, app, pi, lam, letᵉ, proj, nat, str, lift, occurs, depth, forget}

@@ -1,10 +1,9 @@
 -- 01, Expressions to documents: chains and their binders.
-use Rattle.std.specs.Prelude.{ℕ, zero, suc, ◌+◌, Bool, true, false, ◌&&◌, ◌||◌, not, cond, List, [], ◌∷◌, map, eqb, length}
-use Prim.Native.String.{String}
+use Rattle.std.specs.Prelude.{ℕ, suc, ◌+◌, Bool, true, false, ◌&&◌, ◌||◌, not, cond, List, [], ◌∷◌, map, eqb, length}
 use Rattle.document.specs.Walk.{Marked, names}
 use Rattle.pool.specs.Tree.{Name, Expr, var, sort, const, app, pi, lam, letᵉ, proj, nat, str, lift, occurs, same}
 use Rattle.pieces.specs.Docs.{◌⊹◌, quoted, line, G, NG, Parenable, with_inner, under, tile, opening, closing}
-use Rattle.binders.specs.Runs.{runs, leading}
+use Rattle.binders.specs.Runs.{runs}
 use Rattle.names.specs.Names.{name_doc, is_anonymous, is_hygienic}
 use Rattle.binders.specs.Options.{PpOptions}
 use Rattle.binders.specs.Shown.{shown, NamesInForce}

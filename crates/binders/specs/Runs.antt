@@ -1,5 +1,5 @@
 -- 01: "Runs are leading runs."
-use Rattle.std.specs.Prelude.{ℕ, zero, suc, Bool, true, false, cond, List, [], ◌∷◌, length}
+use Rattle.std.specs.Prelude.{ℕ, zero, suc, Bool, cond, List, [], ◌∷◌, length}
 
 module _ {A : Type 0} where
   -- the leading run of those that pass a test, and what follows it

@@ -1,7 +1,7 @@
 -- The stack of names: the names in force, and what a scope makes of a variable.
 use Rattle.std.specs.Prelude.{ℕ, zero, suc, ◌+◌, ◌-◌, ◌<◌, ◌≤◌, List, [], ◌∷◌, ◌≡◌, length, get_or, set, true, false}
 use Rattle.pool.specs.Tables.{Pool, N}
-use Rattle.pool.specs.Tree.{Name, Expr, var, sort, const, app, pi, lam, letᵉ, proj, nat, str, occurs}
+use Rattle.pool.specs.Tree.{Expr, var, sort, const, app, pi, lam, letᵉ, proj, nat, str, occurs}
 use Rattle.pool.specs.Unfold.{name_at}
 use Rattle.binders.specs.declared.stack.Entry.{Entry}
 use Rattle.binders.specs.declared.stack.Stack.{Stack}

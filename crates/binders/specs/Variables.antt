@@ -1,5 +1,5 @@
 -- 01, Expressions to documents: variables.
-use Rattle.std.specs.Prelude.{ℕ, zero, suc, List, [], ◌∷◌}
+use Rattle.std.specs.Prelude.{ℕ, zero, suc, [], ◌∷◌}
 use Rattle.document.specs.Walk.{Marked}
 use Rattle.pieces.specs.Docs.{number_doc}
 use Rattle.binders.specs.Shown.{shown_doc, NamesInForce}

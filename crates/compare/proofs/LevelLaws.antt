@@ -16,7 +16,7 @@ use Rattle.pool.specs.Unfold.{name_at, level_at, levels_from, list_at}
 use Rattle.pool.proofs.TreeLaws.{shape_same, shape-equal, shapes_same, labels_differ, levels-equal}
 use Rattle.pool.proofs.RowUnfolds.{zero_at, succ_at, max_at, imax_at, param_at, succ_ok, succ_rest, max_ok, imax_ok, param_ok, level_kind_small, level_label_word}
 use Rattle.pool.proofs.RowUnfolds.{list_fits, entry-fits}
-use Rattle.compare.specs.Seen.{packed, is_held, Holds}
+use Rattle.compare.specs.Seen.{packed, is_held}
 use Rattle.pool.specs.Ready.{Ready}
 use Rattle.links.specs.Links.{Clear, Linked, Settled}
 use Rattle.links.proofs.LinkLaws.{clear_owes}

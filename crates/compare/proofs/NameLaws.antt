@@ -14,7 +14,7 @@ use Rattle.utf8.specs.Letterlike.{same_bytes}
 use Rattle.pool.specs.declared.tables.Tables.{Tables}
 use Rattle.pool.specs.Tables.{N, name_word, string_word, string_at}
 use Rattle.pool.specs.Areas.{over}
-use Rattle.pool.specs.Tree.{Name, anonymous, number, Shape, name_shape, same_shape}
+use Rattle.pool.specs.Tree.{Name, anonymous, Shape, name_shape, same_shape}
 use Rattle.pool.specs.Unfold.{name_at}
 use Rattle.pool.proofs.Clips.{drop_all}
 use Rattle.pool.proofs.TreeLaws.{bytes-equal, bytes_same, shape_same, labels_differ}

@@ -1,5 +1,5 @@
 -- What a search has already answered: keys in an array, of which it is only known that what they stand for is true.
-use Rattle.std.specs.Prelude.{ℕ, suc, ◌+◌, ◌*◌, Bool, true, ◌&&◌, cond, List, ◌≡◌, ltb, eqb, get_or}
+use Rattle.std.specs.Prelude.{ℕ, suc, ◌+◌, ◌*◌, Bool, ◌&&◌, cond, List, ◌≡◌, ltb, eqb, get_or}
 
 -- the key of three numbers; 0, which is no key, where they are too large
 unfoldable pub packed : ℕ → ℕ → ℕ → ℕ

@@ -1,8 +1,8 @@
 -- Laws of the call: what each of its ends answers.
 use Prim.Native.Nat.{ℕ, ◌<◌}
-use mathlib.Core.Bool.{Bool, true, false, ◌&&◌, cond}
+use mathlib.Core.Bool.{Bool, true, false, ◌&&◌}
 use mathlib.Core.List.{List}
-use mathlib.Core.Path.{◌≡◌, refl, sym, ap, ap₂, ◌∙◌}
+use mathlib.Core.Path.{◌≡◌, refl, sym, ap, ◌∙◌}
 use lib.Dec.{ltb, eqb}
 use borrow.Author.Tests.{ltb-true}
 use Rattle.basics.proofs.Booleans.{and_both}
@@ -13,9 +13,8 @@ use Rattle.pool.specs.Ready.{Ready}
 use Rattle.pool_check.specs.declared.Verdict.{Verdict}
 use Rattle.pool_check.specs.Check.{is_accepted, verdict}
 use Rattle.pool_check.proofs.Acceptance.{accepted, accepted-is}
-use Rattle.difference.specs.Order.{Comparison, equal, differ, first_pair}
+use Rattle.difference.specs.Order.{first_pair}
 use Rattle.difference.specs.Walks.{Compares}
-use Rattle.comparison.specs.declared.Compared.{Compared}
 use Rattle.comparison.specs.declared.Compared.TheVariants.{Equal, Differ, Pool, Root}
 use Rattle.comparison.specs.Call.{answer_of, decided, comparison}
 

@@ -1,16 +1,15 @@
 -- What the answer means for trees: the call says equal exactly where the trees of the two rows are equal.
-use Prim.Native.Nat.{ℕ, zero, suc, ◌+◌, ◌<◌}
+use Prim.Native.Nat.{ℕ, suc, ◌<◌}
 use native.Mathlib.Omega.{arith}
-use mathlib.Core.Bool.{Bool, true, false, ◌&&◌}
 use mathlib.Core.List.{List}
 use mathlib.Core.Path.{◌≡◌, sym, ap, ◌∙◌}
 use Rattle.pool.specs.declared.tables.Tables.{Tables}
 use Rattle.pool.specs.Tables.{Pool, E, pool}
 use Rattle.pool.specs.Ready.{Ready}
-use Rattle.pool.specs.Tree.{Expr, forget, lift, same}
+use Rattle.pool.specs.Tree.{Expr, forget, same}
 use Rattle.pool.specs.Unfold.{expr_at}
 use Rattle.pool.proofs.TreeLaws.{lift-none, same_forgets, forgets_same}
-use Rattle.difference.specs.Order.{Comparison, equal, first_pair}
+use Rattle.difference.specs.Order.{equal, first_pair}
 use Rattle.difference.proofs.OrderLaws.{is_equal, equal_is, equal_trees}
 
 module _ (bs ws : List ℕ) (t : Tables) (ready : Ready bs ws ws t) (a b : ℕ) (ha : a < E ws) (hb : b < E ws) where

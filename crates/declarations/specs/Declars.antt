@@ -1,5 +1,5 @@
 -- 01, Declarations.
-use Rattle.std.specs.Prelude.{ℕ, zero, suc, ◌+◌, ◌-◌, max, Bool, true, false, ◌&&◌, not, cond, List, [], ◌∷◌, map, eqb, length, take, drop}
+use Rattle.std.specs.Prelude.{ℕ, zero, suc, Bool, ◌&&◌, not, cond, List, [], ◌∷◌, eqb, length, take, drop}
 use Rattle.document.specs.Walk.{Marked, nestᵐ}
 use Rattle.pool.specs.Tree.{Name, Level, Expr, var, sort, const, app, pi, lam, letᵉ, proj, nat, str, Declar, typed, valued, lift}
 use Rattle.pieces.specs.Docs.{◌⊹◌, quoted, line, G, NG, Parenable, under}

@@ -1,15 +1,13 @@
 -- Laws of the rows that were found equal.
 use Prim.Native.Nat.{ℕ, suc, ◌+◌, ◌-◌, ◌<◌, ◌≤◌, min, max}
 use native.Mathlib.Omega.{arith}
-use native.Mathlib.Numerals.{add-one}
-use mathlib.Core.Bool.{Bool, true, false, ◌&&◌}
+use mathlib.Core.Bool.{Bool, true, ◌&&◌}
 use mathlib.Core.List.{List}
 use mathlib.Core.Path.{◌≡◌, refl, sym, ap, ◌∙◌, subst}
 use lib.Dec.{ltb, leb, eqb}
 use lib.ListN.{length, get_or, set}
 use borrow.Author.Tests.{ltb-true, leb-true, eqb-true}
 use Rattle.basics.proofs.Booleans.{and_both}
-use Rattle.pool.specs.Tree.{Shape}
 use Rattle.links.specs.Links.{Owes}
 use Rattle.links.proofs.LinkLaws.{set-up, unsorted}
 use Rattle.difference.specs.Walks.{is_plain, KeepsWhere, KeepsIf, Root, Finds, Classed}

@@ -1,5 +1,5 @@
 -- Laws of the comparison: what a walk of two rows asks and tells, and what a sweep does.
-use Prim.Native.Nat.{ℕ, zero, suc, ◌+◌, ◌<◌, ◌≤◌}
+use Prim.Native.Nat.{ℕ, suc, ◌+◌, ◌<◌}
 use native.Mathlib.Omega.{arith}
 use native.Mathlib.Numerals.{add-one}
 use mathlib.Core.Bool.{Bool, true, false}
@@ -7,7 +7,7 @@ use mathlib.Core.List.{List}
 use mathlib.Core.Path.{◌≡◌, refl, sym, ap, ap₂, ◌∙◌, subst}
 use lib.Dec.{eqb}
 use lib.ListN.{replicate}
-use borrow.Author.Tests.{eqb-true, eqb-false, eq-eqb, ne_eqb}
+use borrow.Author.Tests.{eqb-true, eqb-false}
 use Rattle.basics.proofs.Booleans.{true-false}
 use Rattle.pool.specs.declared.tables.Tables.{Tables}
 use Rattle.pool.specs.Tables.{Pool, E}
@@ -18,7 +18,7 @@ use Rattle.compare.specs.Equal.{Quick, trees_same}
 use Rattle.compare.proofs.LevelLaws.{told_is}
 use Rattle.links.proofs.LinkLaws.{clear_owes, zeros_clear}
 use Rattle.equality.specs.Sweep.{tree_at}
-use Rattle.difference.specs.Order.{Comparison, equal, differ, first_to, first_pair}
+use Rattle.difference.specs.Order.{Comparison, equal, first_pair}
 use Rattle.difference.specs.Walks.{first_at, Tells, TwoParts, Walked, Compares}
 use Rattle.difference.proofs.OrderLaws.{is_equal, equal_is, equal_trees}
 

@@ -1,19 +1,19 @@
 -- Laws of the first pair that differs: by the parts of two rows, and equal exactly where their trees are.
-use Prim.Native.Nat.{ℕ, zero, suc, ◌+◌, ◌-◌, ◌<◌, ◌≤◌}
+use Prim.Native.Nat.{ℕ, zero, suc, ◌<◌, ◌≤◌}
 use native.Mathlib.Omega.{arith}
 use native.Mathlib.Numerals.{add-one}
 use mathlib.Core.Bool.{Bool, true, false, ◌&&◌, ◌||◌, cond}
 use mathlib.Core.List.{List}
-use mathlib.Core.Path.{◌≡◌, refl, sym, ap, ap₂, ◌∙◌, subst}
+use mathlib.Core.Path.{◌≡◌, refl, sym, ap, ◌∙◌, subst}
 use lib.Dec.{eqb, leb}
 use borrow.Author.Tests.{eq-eqb, ne_eqb, eqb-true, eqb-false, leb-true}
-use Rattle.basics.proofs.Booleans.{false-true, and_both}
+use Rattle.basics.proofs.Booleans.{false-true}
 use Rattle.pool.specs.declared.tables.Tables.{Tables}
 use Rattle.pool.specs.Kinds.{expr_kind}
 use Rattle.pool.specs.Tables.{Pool, E, expr_word, string_at}
 use Rattle.pool.specs.Areas.{over}
 use Rattle.pool.specs.Ready.{Ready}
-use Rattle.pool.specs.Tree.{Expr, shape, lift, loose}
+use Rattle.pool.specs.Tree.{shape, lift}
 use Rattle.pool.specs.Unfold.{expr_at}
 use Rattle.pool.proofs.TreeLaws.{lift-none, lift_closed}
 use Rattle.pool.proofs.ExprUnfolds.{kind_small, loose-word}
@@ -21,7 +21,7 @@ use Rattle.occurrence.specs.Parts.{first_part, second_part, body_part}
 use Rattle.occurrence.proofs.PartLaws.{ten, first_lower, second_lower, body_lower}
 use Rattle.compare.specs.Equal.{trees_same, same_at, fields_same, parts_same}
 use Rattle.compare.proofs.EqualLaws.{by_kind, other_labels}
-use Rattle.equality.specs.Sweep.{tree_at, lifted_at}
+use Rattle.equality.specs.Sweep.{tree_at}
 use Rattle.equality.proofs.SweepLaws.{same-is, is_same}
 use Rattle.difference.specs.Order.{Comparison, equal, differ, ◌and_then◌, fields_equal, children, first_to}
 use Rattle.difference.specs.Walks.{is_plain, first_at, parts_at}

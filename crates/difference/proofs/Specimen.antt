@@ -8,7 +8,7 @@ use Rattle.pool.specs.Tables.{Pool, pool, string_word, name_word, list_word, exp
 use Rattle.pool.specs.Tree.{name_shape, level_shapes, same_shape}
 use Rattle.pool.specs.Unfold.{name_at, name_to, name_node, list_at, levels_from}
 use Rattle.utf8.specs.Letterlike.{same_bytes}
-use Rattle.difference.specs.Order.{Comparison, equal, differ, ◌and_then◌, fields_equal, children, first_to, first_pair}
+use Rattle.difference.specs.Order.{equal, differ, ◌and_then◌, fields_equal, children, first_to, first_pair}
 
 -- counts, strings, names (row 0 anonymous, then f, g, a, b), a list of no levels
 abbrev head : List ℕ

@@ -4,21 +4,20 @@ use native.Mathlib.Omega.{arith}
 use native.Mathlib.Numerals.{add-one}
 use mathlib.Core.Bool.{Bool, true, false, ◌&&◌}
 use mathlib.Core.List.{List}
-use mathlib.Core.Path.{◌≡◌, refl, sym, ap, ap₂, ◌∙◌, subst}
+use mathlib.Core.Path.{◌≡◌, refl, sym, ap, ap₂, ◌∙◌}
 use lib.Dec.{eqb}
 use borrow.Author.Tests.{eqb-true}
-use Rattle.basics.proofs.Booleans.{true-false, false-true, and_both, and_left}
+use Rattle.basics.proofs.Booleans.{true-false, and_both, and_left}
 use Rattle.pool.specs.declared.tables.Tables.{Tables}
 use Rattle.pool.specs.Tables.{Pool, E, expr_word}
 use Rattle.pool.specs.Areas.{over}
-use Rattle.pool.specs.Ready.{Ready}
 use Rattle.pool.proofs.ExprUnfolds.{kind_small}
 use Rattle.occurrence.specs.Parts.{first_part, second_part, body_part}
 use Rattle.occurrence.proofs.PartLaws.{first_lower, second_lower, body_lower}
 use Rattle.compare.specs.Equal.{fields_same, OneKind}
 use Rattle.links.specs.Links.{Owes}
 use Rattle.equality.specs.Sweep.{tree_at}
-use Rattle.difference.specs.Order.{Comparison, equal, differ, ◌and_then◌, first_to}
+use Rattle.difference.specs.Order.{equal, ◌and_then◌, first_to}
 use Rattle.difference.specs.Walks.{is_plain, Classed, KeepsIf, TwoRows, first_at, parts_at, AtOnce, Tells, TwoParts, Walked}
 use Rattle.difference.proofs.OrderLaws.{kinds_differ, fields_differ, by_parts, known_equal, equal_known}
 

@@ -8,7 +8,7 @@ use Rattle.pool.specs.Tree.{Shape}
 use Rattle.occurrence.specs.Parts.{first_part, second_part, body_part}
 use Rattle.links.specs.Links.{Owes}
 use Rattle.equality.specs.Sweep.{tree_at}
-use Rattle.difference.specs.Order.{Comparison, equal, differ, ◌and_then◌, first_to, first_pair}
+use Rattle.difference.specs.Order.{Comparison, equal, differ, ◌and_then◌, first_to}
 
 -- whether lifting by d from c on leaves the tree of row a as it is
 abbrev pub is_plain : List ℕ → ℕ → ℕ → ℕ → Bool

@@ -1,8 +1,8 @@
 -- Laws of steps from what was owed to what is owed, and of parts put aside.
-use Prim.Native.Nat.{ℕ, zero, suc, ◌+◌, ◌-◌, ◌<◌, ◌≤◌}
+use Prim.Native.Nat.{ℕ, zero, suc, ◌-◌}
 use native.Mathlib.Omega.{arith}
 use mathlib.Core.List.{List}
-use mathlib.Core.Path.{◌≡◌, refl, sym, ap, ap₂, ◌∙◌, subst}
+use mathlib.Core.Path.{◌≡◌, refl, sym, ap, ◌∙◌, subst}
 use Rattle.pool.specs.Tables.{expr_word}
 use Rattle.pool.specs.Tree.{Shape}
 use Rattle.links.specs.Links.{Owes, Linked, Put}

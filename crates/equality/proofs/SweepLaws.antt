@@ -2,19 +2,19 @@
 use Prim.Native.Nat.{ℕ, zero, suc, ◌+◌, ◌-◌, ◌<◌, ◌≤◌}
 use native.Mathlib.Omega.{arith}
 use native.Mathlib.Numerals.{add-one}
-use mathlib.Core.Bool.{Bool, true, false, ◌&&◌}
+use mathlib.Core.Bool.{Bool, true, ◌&&◌}
 use mathlib.Core.List.{List}
-use mathlib.Core.Path.{◌≡◌, refl, sym, ap, ap₂, ◌∙◌, subst}
-use lib.ListN.{get_or, set, length}
+use mathlib.Core.Path.{◌≡◌, refl, sym, ap, ◌∙◌, subst}
+use lib.ListN.{get_or, set}
 use lib.Dec.{ltb}
 use borrow.Author.Tests.{ltb-true}
 use Rattle.basics.proofs.Booleans.{and_both, and_left, true-false, not_so}
 use Rattle.pool.specs.Tables.{Pool, expr_word}
-use Rattle.pool.specs.Tree.{Shape, Expr, shape, lift, same_shape}
+use Rattle.pool.specs.Tree.{Shape, shape, same_shape}
 use Rattle.pool.specs.Unfold.{expr_at}
 use Rattle.pool.proofs.TreeLaws.{shape_same, shape-equal, lift-none}
 use Rattle.occurrence.specs.Asked.{Told}
-use Rattle.occurrence.specs.Parts.{first_part, second_part, body_part}
+use Rattle.occurrence.specs.Parts.{body_part}
 use Rattle.links.specs.Links.{Owes, Clear, Put, Stepped, Settled}
 use Rattle.links.proofs.LinkLaws.{take-down, take-up, clear_owes, step_quick, step_where}
 use Rattle.compare.specs.Equal.{Quick, ByParts, trees_same, same_at, parts_same}

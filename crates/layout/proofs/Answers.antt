@@ -19,7 +19,6 @@ use Rattle.layout.specs.declared.Admission.{Admission}
 use Rattle.layout.specs.declared.Admission.TheVariants as admissions
 use Rattle.layout.specs.Layout.{Piece, textᵖ, blankᵖ, newlineᵖ, testᵖ, after, run, start, pieces}
 use Rattle.layout.specs.Listing.{bytes_of, broken_places, lines, longest_row, tests_in}
-use Rattle.layout.specs.Paint.{paint}
 use Rattle.layout.specs.Call.{counts_of, untouched, listed, doc_of, outcome}
 use Rattle.layout.specs.Contract.{Emitteds, Given, Room, LaidOut, admission, counted, reported}
 use Rattle.layout.proofs.Painting.{length-paint}

@@ -1,6 +1,6 @@
 -- A specimen of document 01, `@Nat → @Nat`, computed: 17 rows, 12 text bytes, 13 listed; at width 12 two rows, the longest 8. And a text
 -- that holds a newline, which begins no line.
-use Prim.Native.Nat.{ℕ, ◌-◌}
+use Prim.Native.Nat.{ℕ}
 use mathlib.Core.List.{List, [], ◌∷◌}
 use mathlib.Core.Path.{◌≡◌, refl}
 use Rattle.document.specs.Doc.{Doc, text, join, break, nest, group, row_count, flat_size, first_break, has_break, text_bytes}

@@ -1,7 +1,7 @@
 -- A document of six rows, `ab` and `cd` with a break between in a group, computed at width 4: with 18 words it is listed and they are
 -- cleared, with 17 it is refused 30. 9 and 6 come before 30, and 30 before 22.
 use Prim.Native.Nat.{ℕ}
-use mathlib.Core.List.{List, [], ◌∷◌}
+use mathlib.Core.List.{[], ◌∷◌}
 use mathlib.Core.Path.{◌≡◌, refl}
 use lib.ListN.{replicate}
 use Rattle.document.specs.Doc.{Doc, text, join, break, group, row_count, flat_size, first_break, has_break, text_bytes}

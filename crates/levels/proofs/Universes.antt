@@ -3,24 +3,23 @@ use Prim.Native.Nat.{ℕ, zero, suc, ◌+◌, ◌-◌, ◌<◌, ◌≤◌}
 use native.Mathlib.Nat.{add-sub_cancel_left}
 use native.Mathlib.Numerals.{add-one}
 use native.Mathlib.Omega.{arith}
-use mathlib.Core.Bool.{true}
 use mathlib.Core.List.{List, [], ◌∷◌, map}
 use mathlib.Core.Path.{◌≡◌, refl, sym}
 use lib.Dec.{ltb}
-use borrow.Author.Tests.{ltb-true, leb-true, le-ltb}
+use borrow.Author.Tests.{le-ltb}
 use Rattle.utf8.specs.Quoted.{bytes}
 use Rattle.document.specs.Walk.{Marked}
 use Rattle.document.specs.Sink.{State, put_text, put_break, put_join, put_group, emit}
 use Rattle.pool.specs.declared.tables.Tables.{Tables}
 use Rattle.pool.specs.Tables.{N, L, K, Q, level_word, list_word, list_entry}
-use Rattle.pool.specs.Tree.{Level, zeroˡ, succˡ, maxˡ, imaxˡ, paramˡ}
-use Rattle.pool.specs.Unfold.{name_at, level_node, level_at, levels_from, list_at}
+use Rattle.pool.specs.Tree.{Level}
+use Rattle.pool.specs.Unfold.{name_at, level_at, levels_from, list_at}
 use Rattle.pool.specs.Areas.{over}
 use Rattle.pool.proofs.RowUnfolds as rows
 use Rattle.pool.proofs.RowUnfolds.{LevelRow, is_zero, is_succ, is-max, is_imax, is_param}
 use Rattle.pool.specs.Ready.{Ready}
 use Rattle.pieces.specs.Words.{word_bytes}
-use Rattle.pieces.specs.Docs.{◌⊹◌, quoted, line, G, Parenable, with_inner, under, tile_from, tile, number_doc}
+use Rattle.pieces.specs.Docs.{◌⊹◌, quoted, G, Parenable, with_inner, under, tile, number_doc}
 use Rattle.pieces.specs.Parens.{open_if, close_if}
 use Rattle.pieces.specs.Tiles.{end_tile, put_tile}
 use Rattle.names.specs.Names.{name_doc}

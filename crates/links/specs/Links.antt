@@ -1,5 +1,5 @@
 -- What an array owes: that rows have to be equal. S is what a row is, and F what a row is that stands for something else, as its lifted tree.
-use Rattle.std.specs.Prelude.{ℕ, suc, ◌<◌, List, ◌≡◌, get_or}
+use Rattle.std.specs.Prelude.{ℕ, suc, List, ◌≡◌, get_or}
 use Rattle.pool.specs.Tree.{Shape}
 
 -- each row is what it owes to be

@@ -1,8 +1,8 @@
 -- What follows the walk makes a print's outcome of it.
-use Prim.Native.Nat.{ℕ, ◌+◌, ◌-◌, ◌*◌, ◌≤◌}
+use Prim.Native.Nat.{ℕ, ◌-◌, ◌*◌, ◌≤◌}
 use native.Mathlib.Omega.{arith}
 use mathlib.Core.Bool.{true, false}
-use mathlib.Core.List.{List, [], ◌∷◌, ◌++◌}
+use mathlib.Core.List.{List, ◌++◌}
 use mathlib.Core.Path.{◌≡◌, refl, sym, ap, ap₂, ◌∙◌, subst}
 use lib.Dec.{eqb}
 use Rattle.layout.specs.declared.Counts.{Counts}
@@ -26,7 +26,7 @@ use Rattle.layout.specs.Call as call
 use Rattle.lister.specs.declared.Answer.{Answer}
 use Rattle.lister.specs.declared.Answer.TheVariants.{TextArea, Listing}
 use Rattle.lister.specs.Answers.{stop_answer, of_laid}
-use Rattle.lister.specs.Prints.{Areas, Outcome, document_cleared, filled, document_listed, after_walk, print_doc}
+use Rattle.lister.specs.Prints.{Areas, document_cleared, filled, document_listed, after_walk, print_doc}
 use Rattle.lister.specs.Stages.{laid_out, finished}
 
 -- the areas with what a walk left in the document areas

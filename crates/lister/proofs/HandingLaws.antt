@@ -1,6 +1,6 @@
 -- What is handed out lies inside its area, and a string that is handed out is the string of its row.
 -- Assumes nothing.
-use Prim.Native.Nat.{ℕ, ◌+◌, ◌-◌, ◌≤◌, ◌<◌, min}
+use Prim.Native.Nat.{ℕ, ◌+◌, ◌-◌, ◌≤◌, min}
 use native.Mathlib.Omega.{arith}
 use mathlib.Core.Bool.{Bool, true, false, ◌&&◌, cond}
 use mathlib.Core.List.{List}
@@ -17,7 +17,6 @@ use Rattle.pool.proofs.Clips.{part_clip}
 use Rattle.pool_check.specs.Check.{is_accepted}
 use Rattle.pool_check.proofs.Acceptance.{accepted, accepted-is}
 use Rattle.utf8.specs.Utf8.{utf8}
-use Rattle.lister.specs.declared.Part.{Part}
 use Rattle.lister.specs.declared.Handed.{Handed}
 use Rattle.lister.specs.declared.Handed.TheVariants.{Text, String}
 use Rattle.lister.specs.Source.{Source, pool_of, judged}

@@ -1,12 +1,11 @@
 -- What a sweep finds: the bits of a row's word are the variables that occur in its tree, as far as the row's depth lets them be known.
 use Prim.Native.Nat.{ℕ, zero, suc, ◌+◌, ◌-◌, ◌*◌, ◌/◌, ◌%◌, ◌^◌, ◌<◌, ◌≤◌}
 use native.Mathlib.Omega.{arith}
-use native.Mathlib.Numerals.{add-one}
-use native.Mathlib.Nat.{add-zero, mod-lt, zero-lt-suc}
+use native.Mathlib.Nat.{add-zero}
 use mathlib.Core.Bool.{Bool, true, false, ◌||◌, cond}
 use mathlib.Core.List.{List}
 use mathlib.Core.Path.{◌≡◌, refl, sym, ap, ap₂, ◌∙◌, subst}
-use borrow.Author.Tests.{lt-ltb, le-ltb, ltb-true, ltb-false, leb-true, leb-false, eqb-true, eqb-false, eq-eqb, ne_eqb}
+use borrow.Author.Tests.{le-ltb, ltb-true, ltb-false, leb-true, leb-false, eqb-true, eqb-false, eq-eqb, ne_eqb}
 use lib.Bits.{bit_or, or_lt}
 use lib.Dec.{leb, ltb, eqb}
 use lib.ListN.{length, get_or, set, length-set, replicate}
@@ -16,8 +15,7 @@ use Rattle.pool.specs.declared.tables.Tables.{Tables}
 use Rattle.pool.specs.Tables.{Pool, E, expr_word}
 use Rattle.pool.specs.Areas.{over}
 use Rattle.pool.specs.Sound.{Sound}
-use Rattle.pool.specs.Ready.{Ready}
-use Rattle.pool.specs.Tree.{Expr, occurs, loose, depth}
+use Rattle.pool.specs.Tree.{occurs, depth}
 use Rattle.pool.specs.Unfold.{expr_at}
 use Rattle.pool.proofs.TreeLaws.{none_above, greatest_occurs}
 use Rattle.pool.proofs.ExprUnfolds.{loose-word, depth-word}

@@ -1,11 +1,11 @@
 -- Sets of variables, 64 to a word: what a sweep keeps of each row, and what a step of it does.
-use Rattle.std.specs.Prelude.{ℕ, zero, suc, ◌+◌, ◌-◌, ◌*◌, ◌/◌, ◌%◌, ◌^◌, ◌<◌, ◌≤◌, Bool, cond, List, ◌≡◌, leb, ltb, eqb, get_or, set, length}
+use Rattle.std.specs.Prelude.{ℕ, zero, suc, ◌+◌, ◌-◌, ◌*◌, ◌/◌, ◌%◌, ◌^◌, ◌<◌, Bool, cond, List, ◌≡◌, leb, ltb, eqb, get_or, set, length}
 use Rattle.std.specs.Int.Bits.{bit_or}
 use Rattle.pool.specs.declared.tables.Tables.{Tables}
-use Rattle.pool.specs.Tables.{Pool, E, expr_word}
+use Rattle.pool.specs.Tables.{E, expr_word}
 use Rattle.pool.specs.Areas.{over, WordsOf}
 use Rattle.pool.specs.Ready.{Ready}
-use Rattle.pool.specs.Tree.{occurs, depth}
+use Rattle.pool.specs.Tree.{occurs}
 use Rattle.pool.specs.Unfold.{expr_at}
 use Rattle.occurrence.specs.Parts.{first_part, second_part, body_part}
 

@@ -1,7 +1,7 @@
 -- 01, Names and levels: "Below, + joins left to right, | is a blank break, G a group, N a nest by the indent round what
 -- follows; each quoted piece, number, digit run, raw string, sign and bracket is one text, and a part named or bracketed
 -- joins as one subtree." Here ⊹ is 01's +, and `line` its |.
-use Rattle.std.specs.Prelude.{ℕ, zero, suc, ◌+◌, ◌/◌, ◌%◌, Bool, true, false, cond, List, [], ◌∷◌, ◌++◌, ltb}
+use Rattle.std.specs.Prelude.{ℕ, zero, suc, ◌+◌, ◌/◌, ◌%◌, cond, List, [], ◌∷◌, ◌++◌, ltb}
 use Prim.Native.String.{String}
 use Rattle.utf8.specs.Quoted.{bytes}
 use Rattle.document.specs.Walk.{Marked, textᵐ, joinᵐ, breakᵐ, nestᵐ, groupᵐ}

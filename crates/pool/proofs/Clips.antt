@@ -1,14 +1,13 @@
 -- Parts of lists that are cut off at the end.
 use Prim.Native.Nat.{ℕ, zero, suc, ◌+◌, ◌-◌, ◌≤◌, ◌<◌, min}
 use native.Mathlib.Omega.{arith}
-use native.Mathlib.Numerals.{add-one}
-use mathlib.Core.Bool.{Bool, true, false, ◌&&◌, ◌||◌, not, cond}
+use mathlib.Core.Bool.{Bool, true, false}
 use mathlib.Core.List.{List, [], ◌∷◌}
 use mathlib.Core.Path.{◌≡◌, refl, sym, ap, ap₂, ◌∙◌}
-use lib.ListN.{length, get_or, take, drop, length-drop}
-use lib.Seq.{drop-cons, take_all, take-nil}
-use lib.Dec.{leb, eqb}
-use borrow.Author.Tests.{ne_eqb, leb-true, leb-false}
+use lib.ListN.{length, take, drop, length-drop}
+use lib.Seq.{take_all, take-nil}
+use lib.Dec.{leb}
+use borrow.Author.Tests.{leb-true, leb-false}
 
 -- a part that is cut off at the end of the list
 take_clip : (n : ℕ) (l : List ℕ) → take (min n (length l)) l ≡ take n l

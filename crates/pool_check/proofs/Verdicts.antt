@@ -9,7 +9,7 @@ use lib.ListN.{length}
 use Rattle.pool.specs.declared.tables.Tables.{Tables}
 use Rattle.pool_check.specs.declared.Verdict.{Verdict}
 use Rattle.pool_check.specs.declared.Verdict.TheVariants.{Words, Limit}
-use Rattle.pool.specs.Tables.{pool, total}
+use Rattle.pool.specs.Tables.{pool}
 use Rattle.byte_check.specs.Scan.{first_bad}
 use Rattle.pool_check.specs.Check.{in_table, words_ok, limits_ok, rows_verdict, verdict}
 use Rattle.pool.specs.Areas.{TablesOf}

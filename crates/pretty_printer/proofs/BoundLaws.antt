@@ -1,12 +1,11 @@
 -- The bound of `expr_par_to` does not matter: an expression's document is the same for every bound from its depth on.
-use Prim.Native.Nat.{ℕ, zero, suc, ◌+◌, ◌≤◌, max}
+use Prim.Native.Nat.{ℕ, zero, suc, ◌≤◌}
 use native.Mathlib.Omega.{arith}
-use mathlib.Core.Bool.{Bool, true, false, cond}
-use mathlib.Core.List.{List, [], ◌∷◌, ◌++◌, map}
-use mathlib.Core.Path.{◌≡◌, refl, sym, ap, ap₂, ◌∙◌}
+use mathlib.Core.List.{List, [], ◌∷◌, map}
+use mathlib.Core.Path.{◌≡◌, refl, ap, ap₂}
 use lib.ListN.{length}
 use Rattle.pool.proofs.TreeLaws.{lift-depth}
-use Rattle.pool.specs.Tree.{Name, Expr, var, sort, const, app, pi, lam, letᵉ, proj, nat, str, depth}
+use Rattle.pool.specs.Tree.{Expr, var, sort, const, app, pi, lam, letᵉ, proj, nat, str, depth}
 use Rattle.pieces.specs.Docs.{Parenable, G, under, tile}
 use Rattle.binders.specs.Runs.{runs}
 use Rattle.binders.specs.Binders.{Binder, binders, chain_body, pushed, group_doc, telescope, arrow_par, forall_par, fun_par, run_par, runs_par, binders_par, same_group}

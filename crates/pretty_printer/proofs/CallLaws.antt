@@ -2,12 +2,12 @@
 use Prim.Native.Nat.{ℕ, zero, suc, ◌+◌, ◌<◌, ◌≤◌}
 use native.Mathlib.Omega.{arith}
 use mathlib.Core.Bool.{Bool, true, false, cond}
-use mathlib.Core.List.{List, [], ◌∷◌}
+use mathlib.Core.List.{List, ◌∷◌}
 use mathlib.Core.Path.{◌≡◌, refl, sym, ap, ap₂, ◌∙◌}
 use lib.Dec.{ltb, leb, eqb}
 use lib.ListN.{length}
 use borrow.Author.Tests.{le-ltb, leb-true}
-use Rattle.document.specs.Walk.{Marked, textᵐ, names}
+use Rattle.document.specs.Walk.{Marked, textᵐ}
 use Rattle.document.specs.Sink.State.{state}
 use Rattle.document.specs.Sink.{State, sink_of, stopped_at, refuse, put_text, put_join, put_break, put_nest, put_group, put_names, emit}
 use Rattle.pool.specs.Tables.{Pool}

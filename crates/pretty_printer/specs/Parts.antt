@@ -1,5 +1,5 @@
 -- What each printer of the call cycle puts, in the terms of the stack, the scope and the row's tree.
-use Rattle.std.specs.Prelude.{ℕ, zero, suc, ◌+◌, Bool, true, false, ◌||◌, cond, List, [], ◌∷◌, map, eqb, take}
+use Rattle.std.specs.Prelude.{ℕ, ◌+◌, Bool, true, false, ◌∷◌, map, take}
 use Rattle.document.specs.Walk.{Marked}
 use Rattle.document.specs.Sink.{State, put_names, emit}
 use Rattle.pool.specs.Tables.{Pool}

@@ -1,8 +1,7 @@
 -- The bytes of a quoted text, so that definitions can write the words of 01 as 01 does.
 use Rattle.std.specs.Prelude.{ℕ, ◌+◌, ◌/◌, ◌%◌, cond, List, [], ◌∷◌, ◌++◌, ◌≡◌, refl, ltb}
-use Prim.Native.Char.{Char, code}
+use Prim.Native.Char.{code}
 use Prim.Native.String.{String}
-use Prim.Native.String
 
 -- the UTF-8 of a code point
 unfoldable pub encode : ℕ → List ℕ

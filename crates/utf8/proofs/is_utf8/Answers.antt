@@ -1,6 +1,5 @@
 use Rattle.utf8.proofs.Laws.{utf8-start, utf8_end, ready-start}
 use native.Mathlib.Omega.{arith}
-use Prim.Native.Nat.{◌-◌}
 use Rattle.utf8.proofs.is_utf8.Goals as goal
 
 pub loop-i-init : goal.loop-i-init

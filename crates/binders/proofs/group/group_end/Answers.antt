@@ -1,4 +1,3 @@
-use Prim.Native.Nat.{◌-◌}
 use native.Mathlib.Omega.{arith}
 use Rattle.binders.proofs.NamingLaws.{some_binder}
 use Rattle.binders.proofs.GroupingLaws.{group-row, grouping_start, grouping_binder, grouping_next, grouping_done, grouping_full, group-ended}

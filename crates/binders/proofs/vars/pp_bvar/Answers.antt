@@ -1,5 +1,4 @@
 use Rattle.binders.proofs.ScopeLaws.{place-next, link_within, prints_past, prints-name}
-use Prim.Native.Nat.{◌-◌}
 use mathlib.Core.Path.{◌≡◌, refl, ◌∙◌}
 use native.Mathlib.Omega.{arith}
 use Rattle.binders.proofs.vars.pp_bvar.Goals as goal

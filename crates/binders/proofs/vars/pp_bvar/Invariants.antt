@@ -1,5 +1,5 @@
 use Rattle.binders.specs.Scopes.{place_in}
-use Prim.Native.Nat.{◌-◌, ◌≤◌}
+use Prim.Native.Nat.{◌≤◌}
 use mathlib.Core.Path.{◌≡◌}
 use Rattle.binders.proofs.vars.pp_bvar.Given as goal
 

@@ -5,7 +5,7 @@ use Rattle.byte_check.specs.Runs.{mark}
 use lib.ListN.{length, length-set}
 use mathlib.Core.Bool.{Bool, cond}
 use mathlib.Core.Path.{ap, ◌∙◌}
-use Prim.Native.Nat.{ℕ, ◌<◌, ◌-◌, min}
+use Prim.Native.Nat.{ℕ, ◌<◌, min}
 use native.Mathlib.Omega.{arith}
 use Rattle.byte_check.proofs.naturals.mark_naturals.Goals as goal
 

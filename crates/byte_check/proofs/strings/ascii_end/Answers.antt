@@ -1,5 +1,4 @@
 use Rattle.byte_check.proofs.RunLaws.{ascii_on}
-use Prim.Native.Nat.{◌-◌}
 use native.Mathlib.Omega.{arith}
 use Rattle.byte_check.proofs.strings.ascii_end.Goals as goal
 

@@ -5,7 +5,7 @@ use Rattle.byte_check.proofs.RunLaws.{known_none, known_next, before-next}
 use Rattle.pool.specs.Areas.{over}
 use Rattle.byte_check.specs.Runs.{Known, before}
 use mathlib.Core.List.{List, []}
-use Prim.Native.Nat.{ℕ, ◌-◌}
+use Prim.Native.Nat.{ℕ}
 use mathlib.Core.Path.{◌≡◌, refl, sym, ◌∙◌}
 use native.Mathlib.Omega.{arith}
 use Rattle.byte_check.proofs.strings.first_bad_string.Goals as goal

@@ -1,5 +1,4 @@
 use native.Mathlib.Omega.{arith}
-use Prim.Native.Nat.{◌-◌}
 use Rattle.compare.proofs.NameLaws.{bytes_past}
 use Rattle.compare.proofs.bytes.same_blocks.Goals as goal
 

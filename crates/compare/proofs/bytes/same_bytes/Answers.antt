@@ -1,5 +1,4 @@
 use native.Mathlib.Omega.{arith}
-use Prim.Native.Nat.{◌-◌}
 use Rattle.compare.proofs.NameLaws.{bytes-differ, bytes_on, bytes_off, bytes_end}
 use Rattle.compare.proofs.bytes.same_bytes.Goals as goal
 

@@ -1,5 +1,4 @@
 use native.Mathlib.Omega.{arith}
-use Prim.Native.Nat.{◌-◌}
 use Rattle.compare.proofs.LevelLaws.{list_end, entry_differs, entry_agrees, entries_there}
 use Rattle.compare.proofs.lists.levels.Goals as goal
 

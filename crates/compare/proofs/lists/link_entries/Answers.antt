@@ -1,5 +1,4 @@
 use native.Mathlib.Omega.{arith}
-use Prim.Native.Nat.{◌-◌}
 use mathlib.Core.Path.{◌≡◌, ◌∙◌}
 use Rattle.compare.proofs.ListLaws.{lists-more}
 use Rattle.compare.proofs.lists.link_entries.Goals as goal

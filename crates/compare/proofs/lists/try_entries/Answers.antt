@@ -1,5 +1,4 @@
 use native.Mathlib.Omega.{arith}
-use Prim.Native.Nat.{◌-◌}
 use mathlib.Core.Bool.{true}
 use mathlib.Core.Path.{refl, sym}
 use Rattle.compare.proofs.LevelLaws.{list_end, entry_agrees, entries_there}

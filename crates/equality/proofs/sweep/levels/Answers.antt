@@ -1,6 +1,5 @@
 use native.Mathlib.Omega.{arith}
 use Rattle.pool.specs.Areas.{over}
-use Prim.Native.Nat.{◌-◌}
 use mathlib.Core.Path.{◌∙◌}
 use Rattle.equality.specs.Sweep.{Owed}
 use Rattle.equality.proofs.SweepLaws.{goes_on, two_down, two_up}

@@ -2,8 +2,6 @@ use Rattle.pool.specs.Rules.{expr_ok}
 use Rattle.byte_check.proofs.Scan.{step_to, found_at, none_from}
 use Rattle.expr_check.proofs.MarkLaws.{marked_here}
 use Rattle.pool.specs.Areas.{over}
-use mathlib.Core.Bool.{true}
-use Prim.Native.Nat.{◌-◌}
 use Rattle.expr_check.proofs.exprs.scan_exprs.Goals as goal
 
 pub returns-then-not-expr_ok : goal.returns-then-not-expr_ok

@@ -1,7 +1,6 @@
 use Rattle.levels.proofs.Universes.{entry-below, tile-step, tile_end}
 use Rattle.document.specs.Sink.State.{state}
 use native.Mathlib.Omega.{arith}
-use Prim.Native.Nat.{◌-◌}
 use mathlib.Core.Path.{sym, ◌∙◌}
 use Rattle.levels.proofs.levels.put_next_levels.Goals as goal
 

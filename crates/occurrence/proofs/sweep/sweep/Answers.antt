@@ -1,5 +1,4 @@
 use native.Mathlib.Omega.{arith}
-use Prim.Native.Nat.{◌-◌}
 use mathlib.Core.Path.{◌∙◌}
 use Rattle.occurrence.proofs.StepLaws.{steps_on, steps_end}
 use Rattle.occurrence.proofs.sweep.sweep.Goals as goal

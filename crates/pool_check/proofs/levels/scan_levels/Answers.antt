@@ -10,7 +10,7 @@ use borrow.Author.Count.{below_more}
 use lib.ListN.{length, length-set}
 use mathlib.Core.List.{List}
 use mathlib.Core.Bool.{true}
-use Prim.Native.Nat.{ℕ, ◌<◌, ◌-◌}
+use Prim.Native.Nat.{ℕ, ◌<◌}
 use mathlib.Core.Path.{◌≡◌, refl}
 use native.Mathlib.Omega.{arith}
 use Rattle.pool_check.proofs.levels.scan_levels.Goals as goal

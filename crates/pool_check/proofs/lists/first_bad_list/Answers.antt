@@ -1,7 +1,6 @@
 use Rattle.pool.specs.Rules.{list_ok}
 use Rattle.byte_check.proofs.Scan.{bad_step, bad_found, bad_none}
 use Rattle.pool.specs.Areas.{over}
-use Prim.Native.Nat.{◌-◌}
 use native.Mathlib.Omega.{arith}
 use Rattle.pool_check.proofs.lists.first_bad_list.Goals as goal
 

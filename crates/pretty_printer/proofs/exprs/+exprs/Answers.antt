@@ -2,8 +2,8 @@ use Prim.Native.Nat.{ℕ, ◌<◌, ◌+◌, ◌-◌}
 use native.Mathlib.Omega.{arith}
 use mathlib.Core.Path.{◌≡◌, refl, sym, ap, ◌∙◌}
 use borrow.Author.Tests.{ne_eqb, eq-eqb}
-use mathlib.Core.Bool.{true, false}
-use lib.ListN.{length, get_or}
+use mathlib.Core.Bool.{false}
+use lib.ListN.{get_or}
 use lib.Dec.{eqb}
 use Rattle.document.specs.Sink.{State, sink_of, put_names, emit, put_group}
 use Rattle.document.specs.Sink.State.{state}

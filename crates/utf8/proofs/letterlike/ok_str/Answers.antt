@@ -1,7 +1,6 @@
 use Rattle.utf8.proofs.Classes.{fit_start, fit_on, fit_end, plain-is}
 use Rattle.utf8.proofs.Laws.{ready-start, points-next, none_left}
 use native.Mathlib.Omega.{arith}
-use Prim.Native.Nat.{◌-◌}
 use Rattle.utf8.proofs.letterlike.ok_str.Goals as goal
 
 pub loop-i-init : goal.loop-i-init
