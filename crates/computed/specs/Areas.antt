@@ -1,8 +1,7 @@
 -- Numbers as a text has them; areas a little longer than a print needs, and what they hold after it.
 use Rattle.std.specs.Prelude.{ℕ, ◌+◌, ◌-◌, ◌*◌, true, false, List, [], ◌∷◌, ◌++◌, eqb, length, replicate}
-use Prim.Native.Char.{Char, code}
+use Prim.Native.Char.{code}
 use Prim.Native.String.{String}
-use Prim.Native.String
 use Rattle.lister.specs.declared.Answer.{Answer}
 use Rattle.lister.specs.declared.Answer.TheVariants.{Done}
 use Rattle.lister.specs.Source.{Source}

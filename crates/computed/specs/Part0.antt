@@ -1,7 +1,7 @@
 -- Recorded prints 0 to 16, computed by the definitions. Written by differential/compute.py.
-use Rattle.std.specs.Prelude.{List, [], ◌∷◌, ◌≡◌, refl}
+use Rattle.std.specs.Prelude.{◌≡◌, refl}
 use Rattle.utf8.specs.Quoted.{bytes}
-use Rattle.lister.specs.Prints.{print_expr, print_declar}
+use Rattle.lister.specs.Prints.{print_expr}
 use Rattle.specimens.specs.Computing.{computing}
 use Rattle.computed.specs.Areas.{numbers, source, lent, counts, done}
 

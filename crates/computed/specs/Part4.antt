@@ -1,5 +1,5 @@
 -- Recorded prints 68 to 84, computed by the definitions. Written by differential/compute.py.
-use Rattle.std.specs.Prelude.{List, [], ◌∷◌, ◌≡◌, refl}
+use Rattle.std.specs.Prelude.{◌≡◌, refl}
 use Rattle.utf8.specs.Quoted.{bytes}
 use Rattle.lister.specs.Prints.{print_expr, print_declar}
 use Rattle.specimens.specs.Computing.{computing}

@@ -1,8 +1,7 @@
 -- Prints into short areas, as model.py has them, computed by the definitions. Written by differential/compute.py.
-use Rattle.std.specs.Prelude.{List, [], ◌∷◌, ◌≡◌, refl}
-use Rattle.utf8.specs.Quoted.{bytes}
-use Rattle.lister.specs.declared.Answer.TheVariants.{Names, Document, RowArea, TextArea, Listing}
-use Rattle.lister.specs.Prints.{print_expr, print_declar}
+use Rattle.std.specs.Prelude.{◌≡◌, refl}
+use Rattle.lister.specs.declared.Answer.TheVariants.{RowArea, TextArea, Listing}
+use Rattle.lister.specs.Prints.{print_expr}
 use Rattle.specimens.specs.Computing.{computing}
 use Rattle.computed.specs.Areas.{numbers, source, filled, left}
 

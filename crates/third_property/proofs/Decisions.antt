@@ -1,18 +1,15 @@
 -- When a print succeeds, and else which number refuses it and where, of whatever a call returns.
-use Prim.Native.Nat.{ℕ, suc, ◌≤◌, ◌<◌}
+use Prim.Native.Nat.{ℕ, ◌≤◌, ◌<◌}
 use native.Mathlib.Omega.{arith}
 use mathlib.Core.Bool.{Bool, true, false, cond}
-use mathlib.Core.List.{List}
 use mathlib.Core.Path.{◌≡◌, refl, sym, ap, ap₂, ◌∙◌, subst}
 use lib.Dec.{ltb}
 use lib.ListN.{length}
 use borrow.Author.Tests.{lt-ltb, le-ltb, ltb-true, ltb-false}
 use Rattle.document.specs.Doc.{row_count, text_bytes}
-use Rattle.document.specs.Walk.{unmarked, Event, events, Progress, going, stopped, walk}
+use Rattle.document.specs.Walk.{unmarked, Event, events, Progress, going, walk}
 use Rattle.layout.specs.Listing.{bytes_of}
 use Rattle.layout.specs.Call.{counts_of}
-use Rattle.layout.specs.declared.Counts.{Counts}
-use Rattle.lister.specs.declared.Answer.{Answer}
 use Rattle.lister.specs.declared.Answer.TheVariants.{Done, Listing}
 use Rattle.lister.specs.Answers.{number, place, stop_answer}
 use Rattle.lister.specs.Prints.{Outcome, sizes_ok, after_walk, document_cleared}

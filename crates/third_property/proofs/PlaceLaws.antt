@@ -2,17 +2,16 @@
 -- equal but for the places of their marks.
 use Prim.Native.Nat.{ℕ, zero, suc, ◌+◌}
 use native.Mathlib.Omega.{arith}
-use mathlib.Core.Bool.{Bool, true, false, ◌&&◌, ◌||◌, not, cond}
+use mathlib.Core.Bool.{Bool, true, false, ◌&&◌, not, cond}
 use mathlib.Core.List.{List, [], ◌∷◌, map}
 use mathlib.Core.Path.{◌≡◌, refl, sym, ap, ap₂, ◌∙◌, subst}
 use lib.Dec.{ltb, eqb}
 use lib.ListN.{length, take, drop}
 use Rattle.basics.proofs.Booleans.{both_ways}
 use Rattle.document.specs.Walk.{Marked, textᵐ, joinᵐ, breakᵐ, nestᵐ, groupᵐ, names}
-use Rattle.pool.specs.Tree.{Name, Level, Expr, var, sort, const, app, pi, lam, letᵉ, proj, nat, str, Declar, typed, valued, lift, occurs, same, depth, forget, forgetᵈ}
+use Rattle.pool.specs.Tree.{Name, Level, Expr, var, sort, const, app, pi, lam, letᵉ, proj, nat, str, Declar, typed, valued, lift, same, depth, forget, forgetᵈ}
 use Rattle.pool.proofs.TreeLaws.{lift_forgets, forget-occurs, forget-depth, forget_twice, same_forgets, forgets_same}
-use Rattle.pieces.specs.Docs.{◌⊹◌, quoted, line, G, NG, Parenable, with_inner, under, tile, tile_from, number_doc, opening, closing}
-use Rattle.names.specs.Names.{name_doc, is_anonymous}
+use Rattle.pieces.specs.Docs.{◌⊹◌, quoted, line, G, Parenable, under, tile, tile_from}
 use Rattle.binders.specs.Runs.{runs_to, runs, leading, following}
 use Rattle.binders.specs.Binders.{
   Binder,

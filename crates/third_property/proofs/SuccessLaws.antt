@@ -1,15 +1,15 @@
 -- Laws of a walk in inequalities: it goes through exactly if all fits, and stops at the first event that does not.
-use Prim.Native.Nat.{ℕ, zero, suc, ◌+◌, ◌*◌, ◌<◌, ◌≤◌}
+use Prim.Native.Nat.{ℕ, suc, ◌+◌, ◌*◌, ◌<◌, ◌≤◌}
 use native.Mathlib.Omega.{arith}
-use mathlib.Core.Bool.{Bool, true, false, cond}
+use mathlib.Core.Bool.{Bool, true, false}
 use mathlib.Core.List.{List, [], ◌∷◌, ◌++◌}
 use mathlib.Core.Path.{◌≡◌, refl, sym, ap, ap₂, ◌∙◌, subst}
 use lib.Dec.{ltb, leb}
 use lib.ListN.{length, length-append}
 use borrow.Author.Tests.{lt-ltb, le-ltb, le-leb, lt-leb, ltb-true, ltb-false, leb-true, leb-false}
-use Rattle.document.specs.Doc.{Doc, row_count, text_bytes}
+use Rattle.document.specs.Doc.{row_count, text_bytes}
 use Rattle.document.specs.Walk.{Marked, textᵐ, joinᵐ, breakᵐ, nestᵐ, groupᵐ, names, unmarked, Event, byte, row, named, text_events, events}
-use Rattle.document.specs.Walk.{Progress, going, stopped, step, steps, walk}
+use Rattle.document.specs.Walk.{Progress, going, stopped, step, steps}
 use Rattle.document.proofs.Steps.{steps-append}
 use Rattle.third_property.specs.Success.{row_events, byte_events, NamesFit, Fits, Refused, too_many_names, byte_past_limit, text_area_full}
 use Rattle.third_property.specs.Success.{row_past_limit, row_area_full, FirstRefused}

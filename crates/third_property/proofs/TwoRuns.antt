@@ -2,16 +2,16 @@
 -- every clause is applied to their runs, one of which breaks its row. And two declarations of one tree are refused 7 at different places.
 use Prim.Native.Nat.{ℕ}
 use native.Mathlib.Omega.{arith}
-use mathlib.Core.Bool.{true, false}
+use mathlib.Core.Bool.{false}
 use mathlib.Core.List.{List, [], ◌∷◌}
 use mathlib.Core.Path.{◌≡◌, refl}
 use lib.ListN.{replicate}
 use Rattle.layout.specs.Layout.{blankᵖ, newlineᵖ}
 use Rattle.lister.specs.Answers.{number, place}
 use Rattle.lister.specs.Prints.{Areas}
-use Rattle.third_property.specs.Claims.{Row, rows_from, rows_in}
-use Rattle.third_property.specs.Places.{Met, met_from, pieces_of, places_in, failed, rows_on, all_failed, group_rows, groups_outside}
-use Rattle.third_property.specs.ThirdProperty.{Print, expression, declaration, call, SameTree, Run, run_of, Succeeded, Premises, met_in, TwoRuns}
+use Rattle.third_property.specs.Claims.{rows_from, rows_in}
+use Rattle.third_property.specs.Places.{met_from, pieces_of, places_in, failed, rows_on, all_failed, group_rows, groups_outside}
+use Rattle.third_property.specs.ThirdProperty.{expression, declaration, call, SameTree, Run, run_of, Succeeded, Premises, met_in, TwoRuns}
 use Rattle.third_property.specs.ThirdProperty.{EndAlike, AsDefined, SameDocument, PutBack, StartsRows, HoldsWidth, document}
 use Rattle.third_property.proofs.ThirdProperty.{third_property}
 use Rattle.specimens.specs.Computing.{computing}

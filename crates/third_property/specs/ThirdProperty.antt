@@ -1,5 +1,5 @@
 -- The third property (demand 3), clause by clause and in its order, over runs of print expression and print declaration.
-use Rattle.std.specs.Prelude.{ℕ, ◌<◌, ◌≤◌, true, false, List, ◌≡◌, refl, length, take, replicate}
+use Rattle.std.specs.Prelude.{ℕ, ◌<◌, ◌≤◌, true, false, List, ◌≡◌, length, take, replicate}
 use Rattle.document.specs.Doc.{Doc, row_count, text_bytes}
 use Rattle.document.specs.Stored.{stored}
 use Rattle.document.specs.Walk.{Marked, unmarked, Progress, going, stopped, walk}
