@@ -3,6 +3,7 @@
 Rust's document rows, texts and listing, with 01's counts, in areas a little longer than needed; and, against model.py, what
 is refused in areas that are too short."""
 import os
+import re
 import sys
 
 import model
@@ -38,7 +39,7 @@ def chosen(records):
 
 
 def term(n, r, p):
-    call = ("printExpr", "printDeclar")[p.mode]
+    call = ("print_expr", "print_declar")[p.mode]
     c = p.counts
     flat = [w for row in p.rows for w in row]
     return """-- %s %d, indent %d, width %d
@@ -75,31 +76,35 @@ pub refusal%d :
     ≡ left (%s) (%s) (%s) (%s)
 unfolding computing numbers source filled left
 refusal%d = refl
-""" % (("expression", "declaration")[p.mode], p.root, p.indent, p.width, a.number, a.place, n, ("printExpr", "printDeclar")[p.mode],
+""" % (("expression", "declaration")[p.mode], p.root, p.indent, p.width, a.number, a.place, n, ("print_expr", "print_declar")[p.mode],
        source(r), p.root, p.indent, p.width, *lengths, case % a.place if "%" in case else case,
        numbers(a.areas.rows), numbers(a.areas.text), numbers(a.areas.listing), n)
 
 
-HEADER = """-- Recorded prints %d to %d, computed by the definitions. Written by differential/compute.py.
-use mathlib.Core.List.{List, [], _∷_}
-use mathlib.Core.Path.{_≡_, refl}
-use Rattle·utf8.specs.Quoted.{bytes}
-use Rattle·lister.specs.Prints.{printExpr, printDeclar}
-use Rattle·specimens.specs.Computing.{computing}
-use Rattle·computed·specs.specs.Areas.{numbers, source, lent, counts, done}
+HEADER = """-- %s, computed by the definitions. Written by differential/compute.py.
+use Rattle.std.specs.Prelude.{◌≡◌, refl}
+%suse Rattle.lister.specs.Prints.{%s}
+use Rattle.specimens.specs.Computing.{computing}
+use Rattle.computed.specs.Areas.{%s}
 
 """
+
+
+def write(name, title, first, areas, terms):
+    """A file of specs/ that imports what its terms name; `first` has the line between std's and the prints'."""
+    text = "\n".join(terms)
+    used = lambda names: ", ".join(n for n in names if re.search(r"\b%s\b" % n, text))
+    with open(os.path.join(OUT, name + ".antt"), "w") as f:
+        f.write(HEADER % (title, first % used(("Names", "Document", "RowArea", "TextArea", "Listing")) if "%s" in first else first,
+                          used(("print_expr", "print_declar")), areas) + text)
 
 
 def write_refusals(picked):
     """Eight kinds of short areas, each for a few of the smaller prints that are not trivial."""
     prints = [(r, p) for r, p in picked if 12 <= len(p.rows) <= 24 and len(r.words) <= 160][:3]
-    terms = [(r, p, lengths) for r, p in prints for lengths in short_lengths(p)]
-    with open(os.path.join(OUT, "Refusals.antt"), "w") as f:
-        f.write(HEADER.replace("Recorded prints %d to %d, computed by the definitions.", "Prints into short areas, as model.py has them, computed by the definitions.")
-                .replace("use Rattle·lister.specs.Prints", "use Rattle·lister.specs.declared.Answer.the-variants.{Names, Document, RowArea, TextArea, Listing}\nuse Rattle·lister.specs.Prints")
-                .replace("{numbers, source, lent, counts, done}", "{numbers, source, filled, left}"))
-        f.write("\n".join(short_term(n, *t) for n, t in enumerate(terms)))
+    terms = [short_term(n, r, p, lengths) for n, (r, p, lengths) in enumerate((r, p, lengths) for r, p in prints for lengths in short_lengths(p))]
+    write("Refusals", "Prints into short areas, as model.py has them", "use Rattle.lister.specs.declared.Answer.TheVariants.{%s}\n",
+          "numbers, source, filled, left", terms)
     return len(terms)
 
 
@@ -111,8 +116,8 @@ def main():
     parts = [picked[i:i + PER_FILE] for i in range(0, len(picked), PER_FILE)]
     for k, part in enumerate(parts):
         terms = [term(k * PER_FILE + i, r, p) for i, (r, p) in enumerate(part)]
-        with open(os.path.join(OUT, "Part%d.antt" % k), "w") as f:
-            f.write(HEADER % (k * PER_FILE, k * PER_FILE + len(part) - 1) + "\n".join(terms))
+        write("Part%d" % k, "Recorded prints %d to %d" % (k * PER_FILE, k * PER_FILE + len(part) - 1), "use Rattle.utf8.specs.Quoted.{bytes}\n",
+              "numbers, source, lent, counts, done", terms)
     refusals = write_refusals(picked)
     with open(os.path.join(OUT, "Lib.antt"), "w") as f:
         f.write("pub mod Areas\n" + "".join("pub mod Part%d\n" % k for k in range(len(parts))) + "pub mod Refusals\n")
