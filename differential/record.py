@@ -15,8 +15,6 @@ from pools import Builder
 PATH = os.path.join(rust.HERE, "corpus", "prints.bin")
 # the same bytes, as the standard input of a program: rt follows no link
 INPUT = os.path.join(rust.HERE, "..", "crates", "replay", "stdin")
-# the same bytes, as the standard input of a program: rt follows no link
-INPUT = os.path.join(rust.HERE, "..", "crates", "replay", "stdin")
 MAGIC = struct.unpack("<I", b"TIL1")[0]
 HEAD = 16
 POOL, PRINT = 1, 2

@@ -1,5 +1,5 @@
-// The calls as C functions, for `rt staticlib lister_c`. A slice is a pointer and a length in elements. Each call returns the refusal
-// number, 0 for none, and fills the first eight words of `out`; an `out` that is shorter than eight is left as it is.
+// The calls as C functions, for the static library that `rt lib` makes. A slice is a pointer and a length in elements. Each call
+// returns the refusal number, 0 for none, and fills the first eight words of `out`; an `out` that is shorter than eight is left as it is.
 #![tactic(auto)]
 
 ghost use Rattle.std.specs.Prelude.{[], ◌∷◌, ◌≡◌};
