@@ -7,7 +7,7 @@ use Rattle.pool.specs.Tables.{Pool, E, expr_word}
 use Rattle.pool.specs.Tree.{occurs}
 use Rattle.pool.specs.Unfold.{name_at, expr_at}
 use Rattle.pool.specs.Sound.{Sound}
-use Rattle.basics.proofs.Booleans.{and_assoc, or-false, or-second, first-false, first-true}
+use Rattle.basics.proofs.Booleans.{and_assoc, or-false, or_second, first_false, first_true}
 use Rattle.document.specs.Sink.{State, put_text, emit}
 use Rattle.pieces.specs.Docs.{quoted}
 use Rattle.pieces.specs.Words.{word_bytes}
@@ -31,8 +31,8 @@ module _ (p : Pool) (sound : Sound p) (r : ℕ) (h : r < E p.words) where
     pub used_at : (x : ℕ) (v : Bool) → x ≡ w 4 → v ≡ occurs 0 (expr_at p x) → v ≡ (first_binder (expr_at p r)).used
     used_at x v e f = f ∙ ap (λ (y : ℕ). occurs 0 (expr_at p y)) e ∙ sym (ap (λ (y : Binder). y.used) first_at_lem)
 
-    name-used : (first_binder (expr_at p r)).used ≡ occurs 0 (expr_at p (w 4))
-    name-used = ap (λ (y : Binder). y.used) first_at_lem
+    name_used : (first_binder (expr_at p r)).used ≡ occurs 0 (expr_at p (w 4))
+    name_used = ap (λ (y : Binder). y.used) first_at_lem
 
     name_at_lem : is_anonymous (first_binder (expr_at p r)).name ≡ is_anonymous (name_at p (w 1))
     name_at_lem = ap (λ (y : Binder). is_anonymous y.name) first_at_lem
@@ -61,7 +61,7 @@ module _ (p : Pool) (sound : Sound p) (r : ℕ) (h : r < E p.words) where
     pub arrow_named : (k s n : ℕ) (v a g named : Bool) → k ≡ w 0 → s ≡ w 2 → n ≡ w 1 → v ≡ eqb k 4 && eqb s 0 → v ≡ true →
         a ≡ is_anonymous (name_at p n) → g ≡ is_hygienic (name_at p n) → named ≡ a || g → named ≡ true → true ≡ is_arrow (first_binder (expr_at p r))
     arrow_named k s n v a g named ek es en ev et ea eg em eb =
-        arrow_yes k s n v a g named _ true ek es en ev et ea eg em refl (or-second (not (first_binder (expr_at p r)).used) named eb)
+        arrow_yes k s n v a g named _ true ek es en ev et ea eg em refl (or_second (not (first_binder (expr_at p r)).used) named eb)
 
     pub arrow_unused : (k s n : ℕ) (v a g named u res : Bool) → k ≡ w 0 → s ≡ w 2 → n ≡ w 1 → v ≡ eqb k 4 && eqb s 0 → v ≡ true →
         a ≡ is_anonymous (name_at p n) → g ≡ is_hygienic (name_at p n) → named ≡ a || g → named ≡ false → u ≡ (first_binder (expr_at p r)).used → res ≡ not u →
@@ -73,21 +73,21 @@ module _ (p : Pool) (sound : Sound p) (r : ℕ) (h : r < E p.words) where
     pub no_name : (n : ℕ) (a u v : Bool) → n ≡ w 1 → a ≡ is_anonymous (name_at p n) → a ≡ true → u ≡ (first_binder (expr_at p r)).used → v ≡ not u →
         v ≡ is_anonymous (first_binder (expr_at p r)).name && not (first_binder (expr_at p r)).used
     no_name n a u v en ea et eu ev =
-        first-true _ _ v (name_at_lem ∙ ap (λ (x : ℕ). is_anonymous (name_at p x)) (sym en) ∙ sym ea ∙ et) (ev ∙ ap not eu)
+        first_true _ _ v (name_at_lem ∙ ap (λ (x : ℕ). is_anonymous (name_at p x)) (sym en) ∙ sym ea ∙ et) (ev ∙ ap not eu)
 
-    pub some-name : (n : ℕ) (a : Bool) → n ≡ w 1 → a ≡ is_anonymous (name_at p n) → a ≡ false →
+    pub some_name : (n : ℕ) (a : Bool) → n ≡ w 1 → a ≡ is_anonymous (name_at p n) → a ≡ false →
         false ≡ is_anonymous (first_binder (expr_at p r)).name && not (first_binder (expr_at p r)).used
-    some-name n a en ea ef = first-false _ _ (name_at_lem ∙ ap (λ (x : ℕ). is_anonymous (name_at p x)) (sym en) ∙ sym ea ∙ ef)
+    some_name n a en ea ef = first_false _ _ (name_at_lem ∙ ap (λ (x : ℕ). is_anonymous (name_at p x)) (sym en) ∙ sym ea ∙ ef)
 
     pub hidden_name : (hid : Bool) (st : State) → hid ≡ is_anonymous (first_binder (expr_at p r)).name && not (first_binder (expr_at p r)).used →
         hid ≡ true → put_text (word_bytes 36) st ≡ emit (binder_name (first_binder (expr_at p r))) st
     unfolding binder_name emit quoted
     hidden_name hid st eh et = sym (ap (λ (x : Bool). emit (cond x (quoted "_") (name_doc (first_binder (expr_at p r)).name)) st) (sym eh ∙ et))
 
-    pub shown-name : (n : ℕ) (hid : Bool) (st : State) → n ≡ w 1 → hid ≡ is_anonymous (first_binder (expr_at p r)).name && not (first_binder (expr_at p r)).used →
+    pub shown_name : (n : ℕ) (hid : Bool) (st : State) → n ≡ w 1 → hid ≡ is_anonymous (first_binder (expr_at p r)).name && not (first_binder (expr_at p r)).used →
         hid ≡ false → emit (name_doc (name_at p n)) st ≡ emit (binder_name (first_binder (expr_at p r))) st
     unfolding binder_name
-    shown-name n hid st en eh ef =
+    shown_name n hid st en eh ef =
         ap (λ (x : ℕ). emit (name_doc (name_at p x)) st) en
         ∙ sym (ap (λ (x : Bool). emit (cond x (quoted "_") (name_doc (first_binder (expr_at p r)).name)) st) (sym eh ∙ ef)
         ∙ ap (λ (y : Binder). emit (name_doc y.name) st) first_at_lem)

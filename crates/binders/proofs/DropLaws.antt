@@ -80,21 +80,21 @@ module _ (p : Pool) (k : Stack) where
   later_some h m (suc n) (str u) s l = absurd (omega arith)
 
 -- the names of a chain's first binders
-pub names-taken : (k : Stack) (n h m : ℕ) (e : Expr) → n ≤ chain_length e → map binder_name (take n (scoped k h m e)) ≡ name_docs n e
+pub names_taken : (k : Stack) (n h m : ℕ) (e : Expr) → n ≤ chain_length e → map binder_name (take n (scoped k h m e)) ≡ name_docs n e
 unfolding chain_length scoped name_docs binder_name first_binder drop_chain
-names-taken k zero h m e l = refl
-names-taken k (suc n) h m (var i) l = absurd (omega arith)
-names-taken k (suc n) h m (sort i) l = absurd (omega arith)
-names-taken k (suc n) h m (const a ls) l = absurd (omega arith)
-names-taken k (suc n) h m (app f a) l = absurd (omega arith)
-names-taken k (suc n) h m (pi q a s t b) l =
-    ap₂ (λ (x : Marked) (y : List Marked). x ∷ y) refl (names-taken k n (suc m) (suc m) b (omega arith) ∙ ap (name_docs n) (sym (drop_nothing b)))
-names-taken k (suc n) h m (lam q a s t b) l =
-    ap₂ (λ (x : Marked) (y : List Marked). x ∷ y) refl (names-taken k n (suc m) (suc m) b (omega arith) ∙ ap (name_docs n) (sym (drop_nothing b)))
-names-taken k (suc n) h m (letᵉ q a t v b d) l = absurd (omega arith)
-names-taken k (suc n) h m (proj a i e) l = absurd (omega arith)
-names-taken k (suc n) h m (nat s) l = absurd (omega arith)
-names-taken k (suc n) h m (str s) l = absurd (omega arith)
+names_taken k zero h m e l = refl
+names_taken k (suc n) h m (var i) l = absurd (omega arith)
+names_taken k (suc n) h m (sort i) l = absurd (omega arith)
+names_taken k (suc n) h m (const a ls) l = absurd (omega arith)
+names_taken k (suc n) h m (app f a) l = absurd (omega arith)
+names_taken k (suc n) h m (pi q a s t b) l =
+    ap₂ (λ (x : Marked) (y : List Marked). x ∷ y) refl (names_taken k n (suc m) (suc m) b (omega arith) ∙ ap (name_docs n) (sym (drop_nothing b)))
+names_taken k (suc n) h m (lam q a s t b) l =
+    ap₂ (λ (x : Marked) (y : List Marked). x ∷ y) refl (names_taken k n (suc m) (suc m) b (omega arith) ∙ ap (name_docs n) (sym (drop_nothing b)))
+names_taken k (suc n) h m (letᵉ q a t v b d) l = absurd (omega arith)
+names_taken k (suc n) h m (proj a i e) l = absurd (omega arith)
+names_taken k (suc n) h m (nat s) l = absurd (omega arith)
+names_taken k (suc n) h m (str s) l = absurd (omega arith)
 
 pub length-scoped : (k : Stack) (h m : ℕ) (e : Expr) → length (scoped k h m e) ≡ chain_length e
 unfolding scoped chain_length
@@ -128,17 +128,17 @@ run-within c (proj n i e) = omega arith
 run-within c (nat s) = omega arith
 run-within c (str s) = omega arith
 
-pub group-within : (n style : ℕ) (type : Expr) (j : ℕ) (e : Expr) → group_length n style type j e ≤ n
+pub group_within : (n style : ℕ) (type : Expr) (j : ℕ) (e : Expr) → group_length n style type j e ≤ n
 unfolding group_length
-group-within n style type j (var i) = omega arith
-group-within n style type j (sort l) = omega arith
-group-within n style type j (const a ls) = omega arith
-group-within n style type j (app f a) = omega arith
-group-within zero style type j (pi q a s t b) = omega arith
-group-within (suc n) style type j (pi q a s t b) = count_less (in_group style type j (first_binder (pi q a s t b))) (group_length n style type (suc j) b) n (group-within n style type (suc j) b)
-group-within zero style type j (lam q a s t b) = omega arith
-group-within (suc n) style type j (lam q a s t b) = count_less (in_group style type j (first_binder (lam q a s t b))) (group_length n style type (suc j) b) n (group-within n style type (suc j) b)
-group-within n style type j (letᵉ q a t v b d) = omega arith
-group-within n style type j (proj a i e) = omega arith
-group-within n style type j (nat s) = omega arith
-group-within n style type j (str s) = omega arith
+group_within n style type j (var i) = omega arith
+group_within n style type j (sort l) = omega arith
+group_within n style type j (const a ls) = omega arith
+group_within n style type j (app f a) = omega arith
+group_within zero style type j (pi q a s t b) = omega arith
+group_within (suc n) style type j (pi q a s t b) = count_less (in_group style type j (first_binder (pi q a s t b))) (group_length n style type (suc j) b) n (group_within n style type (suc j) b)
+group_within zero style type j (lam q a s t b) = omega arith
+group_within (suc n) style type j (lam q a s t b) = count_less (in_group style type j (first_binder (lam q a s t b))) (group_length n style type (suc j) b) n (group_within n style type (suc j) b)
+group_within n style type j (letᵉ q a t v b d) = omega arith
+group_within n style type j (proj a i e) = omega arith
+group_within n style type j (nat s) = omega arith
+group_within n style type j (str s) = omega arith

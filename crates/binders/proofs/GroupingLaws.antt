@@ -12,7 +12,7 @@ use Rattle.pool.specs.Sound.{Sound}
 use Rattle.binders.specs.Binders.{Binder}
 use Rattle.binders.specs.Steps.{binder_kind, first_binder, in_group, group_length, drop_chain, chain_length}
 use Rattle.binders.specs.Asked.{GroupEnd}
-use Rattle.binders.proofs.ViewLaws.{BinderRow, binder_at, group_made, group-none, drop_made, length_made}
+use Rattle.binders.proofs.ViewLaws.{BinderRow, binder_at, group_made, group_none, drop_made, length_made}
 use Rattle.binders.proofs.BinderLaws.{first_at_lem}
 use Rattle.binders.proofs.RunningLaws.{drop_nothing, drop_more}
 use Rattle.binders.proofs.NamingLaws.{some_binder}
@@ -27,8 +27,8 @@ module _ (p : Pool) (sound : Sound p) (style type : ℕ) where
     group_test j s u same? res es eu em ev =
         let first = first_at_lem p sound at h kind in
         let style-is : (first_binder (expr_at p at)).style ≡ s = ap (λ (b : Binder). b.style) first ∙ sym es in
-        let type-is : (first_binder (expr_at p at)).type ≡ expr_at p u = ap (λ (b : Binder). b.type) first ∙ sym (ap (expr_at p) eu) in
-        rw (style-is, type-is) (ev ∙ ap (λ (x : Bool). not (eqb style 3) && (eqb style s && x)) em)
+        let type_is : (first_binder (expr_at p at)).type ≡ expr_at p u = ap (λ (b : Binder). b.type) first ∙ sym (ap (expr_at p) eu) in
+        rw (style-is, type_is) (ev ∙ ap (λ (x : Bool). not (eqb style 3) && (eqb style s && x)) em)
 
     -- an instance, or of another style
     pub group_unlike : (j s : ℕ) (alike : Bool) → s ≡ expr_word p.words at 2 → alike ≡ not (eqb style 3) && eqb style s → alike ≡ false →
@@ -53,8 +53,8 @@ module _ (p : Pool) (sound : Sound p) (style type : ℕ) where
         by false b x e = absurd (let z : ◌≡◌ {A = ℕ} 0 1 = cc in omega arith)
 
     -- the type of a binder is a row
-    pub group-row : (u : ℕ) → u ≡ expr_word p.words at 3 → u < E p.words
-    group-row u eu = let row = binder_at p sound at h kind in omega (arith, row.type)
+    pub group_row : (u : ℕ) → u ≡ expr_word p.words at 3 → u < E p.words
+    group_row u eu = let row = binder_at p sound at h kind in omega (arith, row.type)
 
   -- the binders after the first, from row r on, among n, j of them passed
   pub record Grouping (n r at j : ℕ) : Type 0 where
@@ -75,7 +75,7 @@ module _ (p : Pool) (sound : Sound p) (style type : ℕ) where
     pub grouping_full : n ≤ j → j ≡ suc (group_length (n - 1) style (expr_at p type) 1 (drop_chain 1 (expr_at p r)))
     grouping_full l =
         let z : n - j ≡ 0 = omega arith in
-        omega (arith, i.count, ap (λ (x : ℕ). group_length x style (expr_at p type) j (expr_at p at)) z ∙ group-none style (expr_at p type) j (expr_at p at))
+        omega (arith, i.count, ap (λ (x : ℕ). group_length x style (expr_at p type) j (expr_at p at)) z ∙ group_none style (expr_at p type) j (expr_at p at))
 
     module _ (l : j < n) (v : Bool) (is : v ≡ in_group style (expr_at p type) j (first_binder (expr_at p at))) where
       grouping_row : BinderRow p sound at i.row
@@ -134,10 +134,10 @@ module _ (p : Pool) (sound : Sound p) (style type : ℕ) where
       }
 
 -- the loop's end, in the first binder's own words
-pub group-ended : (p : Pool) (sound : Sound p) (n r : ℕ) (h : r < E p.words) → 0 < n → n ≤ chain_length (expr_at p r) → (style type row count : ℕ) →
+pub group_ended : (p : Pool) (sound : Sound p) (n r : ℕ) (h : r < E p.words) → 0 < n → n ≤ chain_length (expr_at p r) → (style type row count : ℕ) →
     style ≡ expr_word p.words r 2 → type ≡ expr_word p.words r 3 → count ≡ suc (group_length (n - 1) style (expr_at p type) 1 (drop_chain 1 (expr_at p r))) →
     expr_at p row ≡ drop_chain count (expr_at p r) → row + count ≤ r → GroupEnd p n r row count
-group-ended p sound n r h pos fits style type row count es et ec er el =
+group_ended p sound n r h pos fits style type row count es et ec er el =
     let first = first_at_lem p sound r h (some_binder p sound r h n pos fits) in
     record {
       length =

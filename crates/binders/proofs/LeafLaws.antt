@@ -19,17 +19,17 @@ use Rattle.binders.specs.Leaves.{leaf_kind, leaf_doc}
 
 module _ (p : Pool) (sound : Sound p) (r : ℕ) (h : r < E p.words) (kind a : ℕ)
     (ek : kind ≡ expr_word p.words r 0) (ea : a ≡ expr_word p.words r 1) where
-  pub sort-row : kind ≡ 1 → a < L p.words
-  sort-row e = omega (arith, ea, sort_ok p sound r h (sym ek ∙ e))
+  pub sort_row : kind ≡ 1 → a < L p.words
+  sort_row e = omega (arith, ea, sort_ok p sound r h (sym ek ∙ e))
 
-  pub const-row : kind ≡ 2 → a < N p.names
-  const-row e = omega (arith, ea, (const_ok p sound r h (sym ek ∙ e)).0)
+  pub const_row : kind ≡ 2 → a < N p.names
+  const_row e = omega (arith, ea, (const_ok p sound r h (sym ek ∙ e)).0)
 
-  pub nat-row : kind ≡ 8 → a < S p.names
-  nat-row e = omega (arith, ea, nat_ok p sound r h (sym ek ∙ e))
+  pub nat_row : kind ≡ 8 → a < S p.names
+  nat_row e = omega (arith, ea, nat_ok p sound r h (sym ek ∙ e))
 
-  pub str-row : kind ≡ 9 → a < S p.names
-  str-row e = omega (arith, ea, str_ok p sound r h (sym ek ∙ e))
+  pub str_row : kind ≡ 9 → a < S p.names
+  str_row e = omega (arith, ea, str_ok p sound r h (sym ek ∙ e))
 
   pub sort_leaf : kind ≡ 1 → (st : State) → emit (sort_doc (level_at p a)) st ≡ emit (leaf_doc (expr_at p r)) st
   unfolding leaf_doc

@@ -13,8 +13,8 @@ use Rattle.binders.specs.declared.stack.Stack.{Stack}
 use Rattle.binders.specs.Scopes.{entry, Linked, Held, Grown, push, Chained}
 use Rattle.binders.specs.Asked.{ChainPushed}
 use Rattle.binders.specs.Steps.{binder_kind, is_binder, chain_length}
-use Rattle.binders.proofs.ScopeLaws.{push-last, push-grown, push-named, grown-grown, grown_self}
-use Rattle.binders.proofs.ViewLaws.{binder_row, BinderRow, binder_at, length_made, length_none, chained_made, chained-none}
+use Rattle.binders.proofs.ScopeLaws.{push_last, push_grown, push_named, grown_grown, grown_self}
+use Rattle.binders.proofs.ViewLaws.{binder_row, BinderRow, binder_at, length_made, length_none, chained_made, chained_none}
 
 -- ---- counting the binders from row r on
 
@@ -79,25 +79,25 @@ module _ (p : Pool) (sound : Sound p) (k : Stack) (h r : ℕ) (l : Stack) (at li
       let room : l.count < 1024 = pushing_fits b in
       let linked : Linked l = i.held.linked in
       let bound : name < N p.names = omega (arith, v.name) in
-      let held : Held p (push l name link) = push-named l name link linked room p i.held bound i.scope in
-      let grown : Grown l (push l name link) = push-grown l name link linked room in
+      let held : Held p (push l name link) = push_named l name link linked room p i.held bound i.scope in
+      let grown : Grown l (push l name link) = push_grown l name link linked room in
       let cnt : l'.count ≡ l.count + 1 = ap (λ (x : Stack). x.count) le in
       record {
         row = omega (arith, v.body, i.row);
         kind_is = f;
         held = subst (λ (x : Stack). Held p x) (sym le) held;
-        grown = grown-grown i.grown (subst (λ (x : Stack). Grown l x) (sym le) grown);
+        grown = grown_grown i.grown (subst (λ (x : Stack). Grown l x) (sym le) grown);
         scope = omega arith;
         room = omega (arith, i.room, one_more b, ap (λ (x : ℕ). chain_length (expr_at p x)) e);
         back = λ m g c.
             let last : entry m l.count ≡ record { name = name; link = link } =
-            g.kept l.count (omega arith) ∙ ap (λ (x : Stack). entry x l.count) le ∙ push-last l name link linked room in
+            g.kept l.count (omega arith) ∙ ap (λ (x : Stack). entry x l.count) le ∙ push_last l name link linked room in
             let up : l'.count ≡ suc l.count = omega arith in
             let rest : Chained p m (suc l.count) (suc l.count) (expr_at p (expr_word p.words at 4)) =
             subst (λ (x : ℕ). Chained p m x x (expr_at p (expr_word p.words at 4))) up
             (subst (λ (x : ℕ). Chained p m x l'.count (expr_at p (expr_word p.words at 4))) ke
             (subst (λ (x : ℕ). Chained p m link' l'.count (expr_at p x)) e c)) in
-            i.back m (grown-grown (subst (λ (x : Stack). Grown l x) (sym le) grown) g)
+            i.back m (grown_grown (subst (λ (x : Stack). Grown l x) (sym le) grown) g)
             (subst (λ (x : Expr). Chained p m link l.count x) (sym v.made)
             (chained_made p m link l.count (eqb (expr_word p.words at 0) 4) at (name_at p (expr_word p.words at 1)) (expr_word p.words at 2)
             (expr_at p (expr_word p.words at 3)) (expr_at p (expr_word p.words at 4))
@@ -113,5 +113,5 @@ module _ (p : Pool) (sound : Sound p) (k : Stack) (h r : ℕ) (l : Stack) (at li
       record {
         grown = i.grown;
         held = i.held;
-        chained = i.back l (grown_self l) (chained-none p l link l.count (expr_at p at) none refl);
+        chained = i.back l (grown_self l) (chained_none p l link l.count (expr_at p at) none refl);
       }

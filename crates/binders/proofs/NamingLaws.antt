@@ -30,32 +30,32 @@ module _ (p : Pool) (sound : Sound p) (r : ℕ) (h : r < E p.words) where
     abbrev row : BinderRow p sound r h
     row = binder_at p sound r h b
 
-    next-tree : drop_chain 1 (expr_at p r) ≡ expr_at p (expr_word p.words r 4)
-    next-tree = ap (drop_chain 1) row.made ∙ drop_made _ _ _ _ _ _ 0 ∙ drop_nothing _
+    next_tree : drop_chain 1 (expr_at p r) ≡ expr_at p (expr_word p.words r 4)
+    next_tree = ap (drop_chain 1) row.made ∙ drop_made _ _ _ _ _ _ 0 ∙ drop_nothing _
 
-    pub fewer-left : (n next : ℕ) → n ≤ chain_length (expr_at p r) → next ≡ expr_word p.words r 4 → n - 1 ≤ chain_length (expr_at p next)
-    fewer-left n next fits e =
+    pub fewer_left : (n next : ℕ) → n ≤ chain_length (expr_at p r) → next ≡ expr_word p.words r 4 → n - 1 ≤ chain_length (expr_at p next)
+    fewer_left n next fits e =
         omega (arith, ap chain_length row.made ∙ length_made (eqb (expr_word p.words r 0) 4) r _ _ _ (expr_at p (expr_word p.words r 4)), ap (λ (x : ℕ). chain_length (expr_at p x)) e)
 
     pub lower_row : (next : ℕ) → next ≡ expr_word p.words r 4 → next < r
     lower_row next e = omega (arith, row.body)
 
-    pub next-name : (n next : ℕ) (st : State) → 0 < n → next ≡ expr_word p.words r 4 →
+    pub next_name : (n next : ℕ) (st : State) → 0 < n → next ≡ expr_word p.words r 4 →
         put_tile (name_docs (n - 1) (expr_at p next)) (end_tile (emit (binder_name (first_binder (expr_at p r))) (put_break 1 st))) ≡ put_tile (name_docs n (expr_at p r)) st
     unfolding put_tile name_docs
-    next-name zero next st pos e = absurd (omega arith)
-    next-name (suc n) next st pos e =
+    next_name zero next st pos e = absurd (omega arith)
+    next_name (suc n) next st pos e =
         let one : suc n - 1 ≡ n = omega arith in
-        rw (one, next-tree, e)
+        rw (one, next_tree, e)
 
     -- the first name, then the others
-    pub first-name : (n next : ℕ) (st : State) → 0 < n → next ≡ expr_word p.words r 4 →
+    pub first_name : (n next : ℕ) (st : State) → 0 < n → next ≡ expr_word p.words r 4 →
         put_tile (name_docs (n - 1) (expr_at p next)) (emit (binder_name (first_binder (expr_at p r))) st) ≡ emit (tile (name_docs n (expr_at p r))) st
     unfolding name_docs tile
-    first-name zero next st pos e = absurd (omega arith)
-    first-name (suc n) next st pos e =
+    first_name zero next st pos e = absurd (omega arith)
+    first_name (suc n) next st pos e =
         let one : suc n - 1 ≡ n = omega arith in
-        rw (one, next-tree, e) (tile_emits (binder_name (first_binder (expr_at p r))) (name_docs n (expr_at p (expr_word p.words r 4))) st)
+        rw (one, next_tree, e) (tile_emits (binder_name (first_binder (expr_at p r))) (name_docs n (expr_at p (expr_word p.words r 4))) st)
 
 pub no_names : (e : Expr) (st : State) (n : ℕ) → n ≡ 0 → put_tile (name_docs n e) st ≡ st
 unfolding name_docs put_tile

@@ -35,19 +35,19 @@ chain_length_lem p k h m (nat s) c = omega arith
 chain_length_lem p k h m (str s) c = omega arith
 
 -- inside a binder: the renaming goes up with the scope
-pub scope-up : (k : Stack) (h m : ℕ) (ρ : ℕ → ℕ) → (entry k m).link ≡ h → m < k.count → ((i : ℕ) → place_in k h i ≡ ρ i + (k.count - m)) → (i : ℕ)
+pub scope_up : (k : Stack) (h m : ℕ) (ρ : ℕ → ℕ) → (entry k m).link ≡ h → m < k.count → ((i : ℕ) → place_in k h i ≡ ρ i + (k.count - m)) → (i : ℕ)
     → place_in k (suc m) i ≡ up ρ i + (k.count - suc m)
 unfolding place_by outward up
-scope-up k h m ρ l lt f zero = omega arith
-scope-up k h m ρ l lt f (suc i) = ap (place_by k i) l ∙ f i ∙ omega arith
+scope_up k h m ρ l lt f zero = omega arith
+scope_up k h m ρ l lt f (suc i) = ap (place_by k i) l ∙ f i ∙ omega arith
 
 -- the renaming that a chain's first type is under, where the names from entry m on are the chain's
 unfoldable pub Under : Stack → ℕ → ℕ → (ℕ → ℕ) → Type 0
 Under k h m ρ = (i : ℕ) → place_in k h i ≡ ρ i + (k.count - m)
 
-type-is : (k : Stack) (h m n : ℕ) (ρ : ℕ → ℕ) (t : Expr) → Under k h m ρ → n + m ≡ k.count → lift n 0 (rename ρ t) ≡ rename (place_in k h) t
+type_is : (k : Stack) (h m n : ℕ) (ρ : ℕ → ℕ) (t : Expr) → Under k h m ρ → n + m ≡ k.count → lift n 0 (rename ρ t) ≡ rename (place_in k h) t
 unfolding Under
-type-is k h m n ρ t f e = lift_adds n ρ t ∙ rename_agrees (λ i. ρ i + n) (place_in k h) (λ i. ap (λ (j : ℕ). ρ i + j) (omega arith) ∙ sym (f i)) t
+type_is k h m n ρ t f e = lift_adds n ρ t ∙ rename_agrees (λ i. ρ i + n) (place_in k h) (λ i. ap (λ (j : ℕ). ρ i + j) (omega arith) ∙ sym (f i)) t
 
 pub chain_is_scoped : (p : Pool) (k : Stack) (h m : ℕ) (ρ : ℕ → ℕ) (e : Expr) → Chained p k h m e → Under k h m ρ → binders (rename ρ e) ≡ scoped k h m e
 unfolding binders rename scoped Chained Under
@@ -58,35 +58,35 @@ chain_is_scoped p k h m ρ (app g a) c f = refl
 chain_is_scoped p k h m ρ (pi q n s t b) c f =
     let len : length (scoped k (suc m) (suc m) b) + suc m ≡ k.count = chain_length_lem p k (suc m) (suc m) b c.2 in
     let rest : binders (rename (up ρ) b) ≡ scoped k (suc m) (suc m) b =
-    chain_is_scoped p k (suc m) (suc m) (up ρ) b c.2 (scope-up k h m ρ c.0 (omega arith) f) in
-    rw (rest, own_variable ρ b, type-is k h m (suc (length (scoped k (suc m) (suc m) b))) ρ t f (omega arith))
+    chain_is_scoped p k (suc m) (suc m) (up ρ) b c.2 (scope_up k h m ρ c.0 (omega arith) f) in
+    rw (rest, own_variable ρ b, type_is k h m (suc (length (scoped k (suc m) (suc m) b))) ρ t f (omega arith))
 chain_is_scoped p k h m ρ (lam q n s t b) c f =
     let len : length (scoped k (suc m) (suc m) b) + suc m ≡ k.count = chain_length_lem p k (suc m) (suc m) b c.2 in
     let rest : binders (rename (up ρ) b) ≡ scoped k (suc m) (suc m) b =
-    chain_is_scoped p k (suc m) (suc m) (up ρ) b c.2 (scope-up k h m ρ c.0 (omega arith) f) in
-    rw (rest, own_variable ρ b, type-is k h m (suc (length (scoped k (suc m) (suc m) b))) ρ t f (omega arith))
+    chain_is_scoped p k (suc m) (suc m) (up ρ) b c.2 (scope_up k h m ρ c.0 (omega arith) f) in
+    rw (rest, own_variable ρ b, type_is k h m (suc (length (scoped k (suc m) (suc m) b))) ρ t f (omega arith))
 chain_is_scoped p k h m ρ (letᵉ q n t v b d) c f = refl
 chain_is_scoped p k h m ρ (proj n i e) c f = refl
 chain_is_scoped p k h m ρ (nat s) c f = refl
 chain_is_scoped p k h m ρ (str s) c f = refl
 
-pub body-is-scoped : (p : Pool) (k : Stack) (h m : ℕ) (ρ : ℕ → ℕ) (e : Expr) → Chained p k h m e → Under k h m ρ → chain_body (rename ρ e) ≡ rename
+pub body_is_scoped : (p : Pool) (k : Stack) (h m : ℕ) (ρ : ℕ → ℕ) (e : Expr) → Chained p k h m e → Under k h m ρ → chain_body (rename ρ e) ≡ rename
     (place_in k (last_scope h m e)) (chain_body e)
 unfolding chain_body last_scope Chained Under rename
-body-is-scoped p k h m ρ (var i) c f = rename_agrees ρ (place_in k h) (λ j. omega (arith, f j)) (var i)
-body-is-scoped p k h m ρ (sort l) c f = rename_agrees ρ (place_in k h) (λ j. omega (arith, f j)) (sort l)
-body-is-scoped p k h m ρ (const n ls) c f = rename_agrees ρ (place_in k h) (λ j. omega (arith, f j)) (const n ls)
-body-is-scoped p k h m ρ (app g a) c f = rename_agrees ρ (place_in k h) (λ j. omega (arith, f j)) (app g a)
-body-is-scoped p k h m ρ (pi q n s t b) c f =
+body_is_scoped p k h m ρ (var i) c f = rename_agrees ρ (place_in k h) (λ j. omega (arith, f j)) (var i)
+body_is_scoped p k h m ρ (sort l) c f = rename_agrees ρ (place_in k h) (λ j. omega (arith, f j)) (sort l)
+body_is_scoped p k h m ρ (const n ls) c f = rename_agrees ρ (place_in k h) (λ j. omega (arith, f j)) (const n ls)
+body_is_scoped p k h m ρ (app g a) c f = rename_agrees ρ (place_in k h) (λ j. omega (arith, f j)) (app g a)
+body_is_scoped p k h m ρ (pi q n s t b) c f =
     let len : length (scoped k (suc m) (suc m) b) + suc m ≡ k.count = chain_length_lem p k (suc m) (suc m) b c.2 in
-    body-is-scoped p k (suc m) (suc m) (up ρ) b c.2 (scope-up k h m ρ c.0 (omega arith) f)
-body-is-scoped p k h m ρ (lam q n s t b) c f =
+    body_is_scoped p k (suc m) (suc m) (up ρ) b c.2 (scope_up k h m ρ c.0 (omega arith) f)
+body_is_scoped p k h m ρ (lam q n s t b) c f =
     let len : length (scoped k (suc m) (suc m) b) + suc m ≡ k.count = chain_length_lem p k (suc m) (suc m) b c.2 in
-    body-is-scoped p k (suc m) (suc m) (up ρ) b c.2 (scope-up k h m ρ c.0 (omega arith) f)
-body-is-scoped p k h m ρ (letᵉ q n t v b d) c f = rename_agrees ρ (place_in k h) (λ j. omega (arith, f j)) (letᵉ q n t v b d)
-body-is-scoped p k h m ρ (proj n i e) c f = rename_agrees ρ (place_in k h) (λ j. omega (arith, f j)) (proj n i e)
-body-is-scoped p k h m ρ (nat s) c f = rename_agrees ρ (place_in k h) (λ j. omega (arith, f j)) (nat s)
-body-is-scoped p k h m ρ (str s) c f = rename_agrees ρ (place_in k h) (λ j. omega (arith, f j)) (str s)
+    body_is_scoped p k (suc m) (suc m) (up ρ) b c.2 (scope_up k h m ρ c.0 (omega arith) f)
+body_is_scoped p k h m ρ (letᵉ q n t v b d) c f = rename_agrees ρ (place_in k h) (λ j. omega (arith, f j)) (letᵉ q n t v b d)
+body_is_scoped p k h m ρ (proj n i e) c f = rename_agrees ρ (place_in k h) (λ j. omega (arith, f j)) (proj n i e)
+body_is_scoped p k h m ρ (nat s) c f = rename_agrees ρ (place_in k h) (λ j. omega (arith, f j)) (nat s)
+body_is_scoped p k h m ρ (str s) c f = rename_agrees ρ (place_in k h) (λ j. omega (arith, f j)) (str s)
 
 -- the names in force with the chain's
 pub names_are_pushed : (p : Pool) (k : Stack) (h m : ℕ) (e : Expr) → Chained p k h m e → pushed (scoped k h m e) (names_below p k m) ≡ names_of p k
@@ -106,23 +106,23 @@ names_are_pushed p k h m (str s) c = ap (names_below p k) (sym c)
 
 -- ---- a stack that grew
 
-pub grown-place : (k l : Stack) → Linked k → Grown k l → (h i : ℕ) → h ≤ k.count → place_in l h i ≡ place_in k h i + (l.count - k.count)
+pub grown_place : (k l : Stack) → Linked k → Grown k l → (h i : ℕ) → h ≤ k.count → place_in l h i ≡ place_in k h i + (l.count - k.count)
 unfolding place_by outward
-grown-place k l w g zero zero b = omega (arith, g.more)
-grown-place k l w g zero (suc i) b = omega (arith, g.more)
-grown-place k l w g (suc h) zero b = omega (arith, g.more)
-grown-place k l w g (suc h) (suc i) b =
-    rw (g.kept h b) (grown-place k l w g (entry k h).link i (omega (arith, w.below h b)))
+grown_place k l w g zero zero b = omega (arith, g.more)
+grown_place k l w g zero (suc i) b = omega (arith, g.more)
+grown_place k l w g (suc h) zero b = omega (arith, g.more)
+grown_place k l w g (suc h) (suc i) b =
+    rw (g.kept h b) (grown_place k l w g (entry k h).link i (omega (arith, w.below h b)))
 
 -- a chain's names were put on the stack k, in the scope h
 pub chain_under : (k l : Stack) → Linked k → Grown k l → (h : ℕ) → h ≤ k.count → Under l h k.count (place_in k h)
 unfolding Under
-chain_under k l w g h b i = grown-place k l w g h i b
+chain_under k l w g h b i = grown_place k l w g h i b
 
-pub grown-names : (p : Pool) (k l : Stack) (m : ℕ) → Grown k l → m ≤ k.count → names_below p l m ≡ names_below p k m
+pub grown_names : (p : Pool) (k l : Stack) (m : ℕ) → Grown k l → m ≤ k.count → names_below p l m ≡ names_below p k m
 unfolding names_below
-grown-names p k l zero g b = refl
-grown-names p k l (suc m) g b = rw (g.kept m b, grown-names p k l m g (omega arith))
+grown_names p k l zero g b = refl
+grown_names p k l (suc m) g b = rw (g.kept m b, grown_names p k l m g (omega arith))
 
 -- ---- a variable
 
@@ -170,7 +170,7 @@ among_names p k m h index b = nth_name p k (m - suc h) m h index (omega arith)
 pub let_scope : (k l : Stack) → Linked k → Grown k l → (h : ℕ) → h ≤ k.count → l.count ≡ suc k.count → (entry l k.count).link ≡ h → (i : ℕ)
     → place_in l (suc k.count) i ≡ up (place_in k h) i
 unfolding Under
-let_scope k l w g h b c e i = scope-up l h k.count (place_in k h) e (omega arith) (chain_under k l w g h b) i ∙ omega arith
+let_scope k l w g h b c e i = scope_up l h k.count (place_in k h) e (omega arith) (chain_under k l w g h b) i ∙ omega arith
 
 -- ---- the renaming of a scope has a left inverse, since it rises
 
@@ -203,37 +203,37 @@ last_one {i} {n} f b = by (dec_le n i)
     by (no m) = absurd (f (omega arith))
 
 module _ (k : Stack) (name link : ℕ) (linked : Linked k) (room : k.count < 1024) where
-  pub push-last : entry (push k name link) k.count ≡ record { name = name; link = link }
-  push-last = get_or-set_same k.entries k.count _ _ (omega (arith, linked.full))
+  pub push_last : entry (push k name link) k.count ≡ record { name = name; link = link }
+  push_last = get_or-set_same k.entries k.count _ _ (omega (arith, linked.full))
 
   push_other : (i : ℕ) → i < k.count → entry (push k name link) i ≡ entry k i
   push_other i h = get_or-set_other k.entries k.count i _ _ (omega arith)
 
-  pub push-grown : Grown k (push k name link)
-  push-grown = record { more = omega arith; kept = push_other }
+  pub push_grown : Grown k (push k name link)
+  push_grown = record { more = omega arith; kept = push_other }
 
-  pub push-linked : link ≤ k.count → Linked (push k name link)
-  push-linked h = record { full = length-set k.entries k.count _ ∙ linked.full; small = omega arith; below = λ i b. by i b (dec_lt i k.count) }
+  pub push_linked : link ≤ k.count → Linked (push k name link)
+  push_linked h = record { full = length-set k.entries k.count _ ∙ linked.full; small = omega arith; below = λ i b. by i b (dec_lt i k.count) }
     where
       by : (i : ℕ) → i < k.count + 1 → Dec (i < k.count) → (entry (push k name link) i).link ≤ i
       by i b (yes l) = rw (push_other i l) (linked.below i l)
       by i b (no n) = at_last i (last_one n b)
         where
           at_last : (j : ℕ) → j ≡ k.count → (entry (push k name link) j).link ≤ j
-          at_last j e = rw (e, push-last) h
+          at_last j e = rw (e, push_last) h
 
-  pub push-named : (p : Pool) → Held p k → name < N p.names → link ≤ k.count → Held p (push k name link)
-  push-named p held n h = record { linked = push-linked h; named = λ i b. by i b (dec_lt i k.count) }
+  pub push_named : (p : Pool) → Held p k → name < N p.names → link ≤ k.count → Held p (push k name link)
+  push_named p held n h = record { linked = push_linked h; named = λ i b. by i b (dec_lt i k.count) }
     where
       by : (i : ℕ) → i < k.count + 1 → Dec (i < k.count) → (entry (push k name link) i).name < N p.names
       by i b (yes l) = rw (push_other i l) (held.named i l)
       by i b (no m) = at_last i (last_one m b)
         where
           at_last : (j : ℕ) → j ≡ k.count → (entry (push k name link) j).name < N p.names
-          at_last j e = rw (e, push-last) n
+          at_last j e = rw (e, push_last) n
 
-pub grown-grown : {k l m : Stack} → Grown k l → Grown l m → Grown k m
-grown-grown {k} {l} {m} f g =
+pub grown_grown : {k l m : Stack} → Grown k l → Grown l m → Grown k m
+grown_grown {k} {l} {m} f g =
     record { more = omega (arith, f.more, g.more); kept = λ i h. g.kept i (omega (arith, f.more)) ∙ f.kept i h }
 
 pub grown_self : (k : Stack) → Grown k k
@@ -242,10 +242,10 @@ grown_self k = record { more = omega arith; kept = λ i h. refl }
 -- ---- a variable followed outward
 
 -- one step of the search
-pub place-next : (k : Stack) (h i : ℕ) → (h ≡ 0 → ⊥) → 0 < i → place_in k h i ≡ place_in k (entry k (h - 1)).link (i - 1)
-place-next k zero i n b = absurd (n refl)
-place-next k (suc h) zero n b = absurd (omega arith)
-place-next k (suc h) (suc i) n b = place_out k h i ∙ ap₂ (λ (x y : ℕ). place_in k (entry k x).link y) (omega arith) (omega arith)
+pub place_next : (k : Stack) (h i : ℕ) → (h ≡ 0 → ⊥) → 0 < i → place_in k h i ≡ place_in k (entry k (h - 1)).link (i - 1)
+place_next k zero i n b = absurd (n refl)
+place_next k (suc h) zero n b = absurd (omega arith)
+place_next k (suc h) (suc i) n b = place_out k h i ∙ ap₂ (λ (x y : ℕ). place_in k (entry k x).link y) (omega arith) (omega arith)
 
 pub link_within : (k : Stack) → Linked k → (h : ℕ) → (h ≡ 0 → ⊥) → h ≤ k.count → (entry k (h - 1)).link ≤ k.count
 link_within k w zero n b = absurd (n refl)
@@ -260,11 +260,11 @@ prints_past p k h i scope left n st r z e =
     let place : place_in k h i ≡ k.count + left = r.place ∙ ap (λ (x : ℕ). place_in k x left) z ∙ place_past k left in
     rw (place, past_names p k k.count left (k.count + left), e)
 
-pub prints-name : (p : Pool) (k : Stack) (h i scope left : ℕ) (st : State) → Reached k h i scope left → (scope ≡ 0 → ⊥) →
+pub prints_name : (p : Pool) (k : Stack) (h i scope left : ℕ) (st : State) → Reached k h i scope left → (scope ≡ 0 → ⊥) →
     emit (name_doc (name_at p (entry k (scope - 1)).name)) st ≡ emit (var_doc (names_of p k) (place_in k h i) (place_in k h i)) st
 unfolding names_of
-prints-name p k h i zero left st r n = absurd (n refl)
-prints-name p k h i (suc scope) left st r n =
+prints_name p k h i zero left st r n = absurd (n refl)
+prints_name p k h i (suc scope) left st r n =
     let none : left ≡ 0 = r.ended n in
     let place : place_in k h i ≡ k.count - suc scope = r.place ∙ ap (place_in k (suc scope)) none ∙ place_here k scope in
     let back : suc scope - 1 ≡ scope = omega arith in

@@ -12,7 +12,7 @@ use Rattle.pool.specs.Tree.{Expr, app, depth}
 use Rattle.pool.specs.Unfold.{expr_at}
 use Rattle.pool.specs.Sound.{Sound}
 use Rattle.pool.proofs.ExprUnfolds.{app_at, app_ok, depth-word, depth_small}
-use Rattle.occurrence.proofs.PartLaws.{some-depth}
+use Rattle.occurrence.proofs.PartLaws.{some_depth}
 use Rattle.binders.specs.Spines.{function_of, drop_arguments, SpineOf}
 
 -- after n arguments the row `at` is what is left of row r
@@ -49,7 +49,7 @@ spining_start p sound r arguments h full =
 
 module _ (p : Pool) (sound : Sound p) (r : ℕ) (arguments : List ℕ) (at n : ℕ) (i : Spining p r arguments at n) where
   pub spining_room : n < 256
-  spining_room = omega (arith, i.deep, some-depth (expr_at p at))
+  spining_room = omega (arith, i.deep, some_depth (expr_at p at))
 
   pub spining_done : (expr_word p.words at 0 ≡ 3 → ⊥) → SpineOf p r arguments n at
   spining_done e =
@@ -66,9 +66,9 @@ module _ (p : Pool) (sound : Sound p) (r : ℕ) (arguments : List ℕ) (at n : �
     unfolding function_of
     one_less = ap function_of (sym i.tree ∙ here)
 
-    next-tree : expr_at p next ≡ drop_arguments (suc n) (expr_at p r)
+    next_tree : expr_at p next ≡ drop_arguments (suc n) (expr_at p r)
     unfolding drop_arguments
-    next-tree = sym one_less
+    next_tree = sym one_less
 
     next_deep : n + 1 + depth (expr_at p next) ≤ 256
     next_deep = let d : depth (expr_at p at) ≡ depth (app (expr_at p next) (expr_at p x)) = ap depth here in omega (arith, i.deep, app_deep (expr_at p next) (expr_at p x))
@@ -79,8 +79,8 @@ module _ (p : Pool) (sound : Sound p) (r : ℕ) (arguments : List ℕ) (at n : �
     at_other : (j : ℕ) → j < n → get_or (set arguments n x) j 0 ≡ get_or arguments j 0
     at_other j h = get_or-set_other arguments n j x 0 (λ z. absurd (omega arith))
 
-    argument-last : drop_arguments n (expr_at p r) ≡ app (drop_arguments (suc n) (expr_at p r)) (expr_at p (get_or (set arguments n x) n 0))
-    argument-last = sym i.tree ∙ here ∙ ap₂ app next-tree (ap (expr_at p) (sym at_last))
+    argument_last : drop_arguments n (expr_at p r) ≡ app (drop_arguments (suc n) (expr_at p r)) (expr_at p (get_or (set arguments n x) n 0))
+    argument_last = sym i.tree ∙ here ∙ ap₂ app next_tree (ap (expr_at p) (sym at_last))
 
     argument_other : (j : ℕ) → j < n → drop_arguments j (expr_at p r) ≡ app (drop_arguments (suc j) (expr_at p r)) (expr_at p (get_or (set arguments n x) j 0))
     argument_other j h = i.argument j h ∙ ap (λ (y : ℕ). app (drop_arguments (suc j) (expr_at p r)) (expr_at p y)) (sym (at_other j h))
@@ -91,8 +91,8 @@ module _ (p : Pool) (sound : Sound p) (r : ℕ) (arguments : List ℕ) (at n : �
     below_other : (j : ℕ) → j < n → get_or (set arguments n x) j 0 < r
     below_other j h = omega (arith, at_other j h, i.below j h)
 
-    word-last : get_or (set arguments n x) n 0 < 4294967296
-    word-last = omega (arith, at_last, small)
+    word_last : get_or (set arguments n x) n 0 < 4294967296
+    word_last = omega (arith, at_last, small)
 
     word_other : (j : ℕ) → j < n → get_or (set arguments n x) j 0 < 4294967296
     word_other j h = omega (arith, at_other j h, i.word j h)
@@ -104,8 +104,8 @@ module _ (p : Pool) (sound : Sound p) (r : ℕ) (arguments : List ℕ) (at n : �
           low = omega (arith, ok.0, i.low);
           full = length-set arguments n x ∙ i.full;
           deep = next_deep;
-          tree = next-tree ∙ ap (λ (m : ℕ). drop_arguments m (expr_at p r)) (sym (add-one n));
-          argument = below_more _ n argument_other argument-last;
+          tree = next_tree ∙ ap (λ (m : ℕ). drop_arguments m (expr_at p r)) (sym (add-one n));
+          argument = below_more _ n argument_other argument_last;
           below = below_more _ n below_other below_last;
-          word = below_more _ n word_other word-last;
+          word = below_more _ n word_other word_last;
         }

@@ -94,44 +94,44 @@ length_none (proj n i e) h₀ = refl
 length_none (nat s) h₀ = refl
 length_none (str s) h₀ = refl
 
-pub body-none : (e : Expr) → is_binder e ≡ false → chain_body e ≡ e
+pub body_none : (e : Expr) → is_binder e ≡ false → chain_body e ≡ e
 unfolding is_binder chain_body
-body-none (var i) h₀ = refl
-body-none (sort l) h₀ = refl
-body-none (const n ls) h₀ = refl
-body-none (app f a) h₀ = refl
-body-none (pi p n s t b) h₀ = true-false h₀
-body-none (lam p n s t b) h₀ = true-false h₀
-body-none (letᵉ p n t v b d) h₀ = refl
-body-none (proj n i e) h₀ = refl
-body-none (nat s) h₀ = refl
-body-none (str s) h₀ = refl
+body_none (var i) h₀ = refl
+body_none (sort l) h₀ = refl
+body_none (const n ls) h₀ = refl
+body_none (app f a) h₀ = refl
+body_none (pi p n s t b) h₀ = true-false h₀
+body_none (lam p n s t b) h₀ = true-false h₀
+body_none (letᵉ p n t v b d) h₀ = refl
+body_none (proj n i e) h₀ = refl
+body_none (nat s) h₀ = refl
+body_none (str s) h₀ = refl
 
-pub scope-none : (h m : ℕ) (e : Expr) → is_binder e ≡ false → last_scope h m e ≡ h
+pub scope_none : (h m : ℕ) (e : Expr) → is_binder e ≡ false → last_scope h m e ≡ h
 unfolding is_binder last_scope
-scope-none h m (var i) h₀ = refl
-scope-none h m (sort l) h₀ = refl
-scope-none h m (const n ls) h₀ = refl
-scope-none h m (app f a) h₀ = refl
-scope-none h m (pi p n s t b) h₀ = true-false h₀
-scope-none h m (lam p n s t b) h₀ = true-false h₀
-scope-none h m (letᵉ p n t v b d) h₀ = refl
-scope-none h m (proj n i e) h₀ = refl
-scope-none h m (nat s) h₀ = refl
-scope-none h m (str s) h₀ = refl
+scope_none h m (var i) h₀ = refl
+scope_none h m (sort l) h₀ = refl
+scope_none h m (const n ls) h₀ = refl
+scope_none h m (app f a) h₀ = refl
+scope_none h m (pi p n s t b) h₀ = true-false h₀
+scope_none h m (lam p n s t b) h₀ = true-false h₀
+scope_none h m (letᵉ p n t v b d) h₀ = refl
+scope_none h m (proj n i e) h₀ = refl
+scope_none h m (nat s) h₀ = refl
+scope_none h m (str s) h₀ = refl
 
-pub scoped-none : (k : Stack) (h m : ℕ) (e : Expr) → is_binder e ≡ false → scoped k h m e ≡ []
+pub scoped_none : (k : Stack) (h m : ℕ) (e : Expr) → is_binder e ≡ false → scoped k h m e ≡ []
 unfolding is_binder scoped
-scoped-none k h m (var i) h₀ = refl
-scoped-none k h m (sort l) h₀ = refl
-scoped-none k h m (const n ls) h₀ = refl
-scoped-none k h m (app f a) h₀ = refl
-scoped-none k h m (pi p n s t b) h₀ = true-false h₀
-scoped-none k h m (lam p n s t b) h₀ = true-false h₀
-scoped-none k h m (letᵉ p n t v b d) h₀ = refl
-scoped-none k h m (proj n i e) h₀ = refl
-scoped-none k h m (nat s) h₀ = refl
-scoped-none k h m (str s) h₀ = refl
+scoped_none k h m (var i) h₀ = refl
+scoped_none k h m (sort l) h₀ = refl
+scoped_none k h m (const n ls) h₀ = refl
+scoped_none k h m (app f a) h₀ = refl
+scoped_none k h m (pi p n s t b) h₀ = true-false h₀
+scoped_none k h m (lam p n s t b) h₀ = true-false h₀
+scoped_none k h m (letᵉ p n t v b d) h₀ = refl
+scoped_none k h m (proj n i e) h₀ = refl
+scoped_none k h m (nat s) h₀ = refl
+scoped_none k h m (str s) h₀ = refl
 
 pub run_none : (c : Bool) (e : Expr) → is_binder e ≡ false → run_length c e ≡ 0
 unfolding is_binder run_length
@@ -147,44 +147,44 @@ run_none c (nat s) h₀ = refl
 run_none c (str s) h₀ = refl
 
 -- among no binders
-pub group-none : (style : ℕ) (type : Expr) (j : ℕ) (e : Expr) → group_length 0 style type j e ≡ 0
+pub group_none : (style : ℕ) (type : Expr) (j : ℕ) (e : Expr) → group_length 0 style type j e ≡ 0
 unfolding group_length
-group-none style type j (var i) = refl
-group-none style type j (sort l) = refl
-group-none style type j (const a ls) = refl
-group-none style type j (app f a) = refl
-group-none style type j (pi p a s t b) = refl
-group-none style type j (lam p a s t b) = refl
-group-none style type j (letᵉ p a t v b d) = refl
-group-none style type j (proj a i e) = refl
-group-none style type j (nat s) = refl
-group-none style type j (str s) = refl
+group_none style type j (var i) = refl
+group_none style type j (sort l) = refl
+group_none style type j (const a ls) = refl
+group_none style type j (app f a) = refl
+group_none style type j (pi p a s t b) = refl
+group_none style type j (lam p a s t b) = refl
+group_none style type j (letᵉ p a t v b d) = refl
+group_none style type j (proj a i e) = refl
+group_none style type j (nat s) = refl
+group_none style type j (str s) = refl
 
-pub drop-none : (m : ℕ) (e : Expr) → is_binder e ≡ false → drop_chain m e ≡ e
+pub drop_none : (m : ℕ) (e : Expr) → is_binder e ≡ false → drop_chain m e ≡ e
 unfolding is_binder drop_chain
-drop-none m (var i) h₀ = refl
-drop-none m (sort l) h₀ = refl
-drop-none m (const n ls) h₀ = refl
-drop-none m (app f a) h₀ = refl
-drop-none m (pi p n s t b) h₀ = true-false h₀
-drop-none m (lam p n s t b) h₀ = true-false h₀
-drop-none m (letᵉ p n t v b d) h₀ = refl
-drop-none m (proj n i e) h₀ = refl
-drop-none m (nat s) h₀ = refl
-drop-none m (str s) h₀ = refl
+drop_none m (var i) h₀ = refl
+drop_none m (sort l) h₀ = refl
+drop_none m (const n ls) h₀ = refl
+drop_none m (app f a) h₀ = refl
+drop_none m (pi p n s t b) h₀ = true-false h₀
+drop_none m (lam p n s t b) h₀ = true-false h₀
+drop_none m (letᵉ p n t v b d) h₀ = refl
+drop_none m (proj n i e) h₀ = refl
+drop_none m (nat s) h₀ = refl
+drop_none m (str s) h₀ = refl
 
-pub chained-none : (p : Pool) (k : Stack) (h m : ℕ) (e : Expr) → is_binder e ≡ false → k.count ≡ m → Chained p k h m e
+pub chained_none : (p : Pool) (k : Stack) (h m : ℕ) (e : Expr) → is_binder e ≡ false → k.count ≡ m → Chained p k h m e
 unfolding is_binder Chained
-chained-none p₀ k h m (var i) h₀ c = c
-chained-none p₀ k h m (sort l) h₀ c = c
-chained-none p₀ k h m (const n ls) h₀ c = c
-chained-none p₀ k h m (app f a) h₀ c = c
-chained-none p₀ k h m (pi p n s t b) h₀ c = true-false h₀
-chained-none p₀ k h m (lam p n s t b) h₀ c = true-false h₀
-chained-none p₀ k h m (letᵉ p n t v b d) h₀ c = c
-chained-none p₀ k h m (proj n i e) h₀ c = c
-chained-none p₀ k h m (nat s) h₀ c = c
-chained-none p₀ k h m (str s) h₀ c = c
+chained_none p₀ k h m (var i) h₀ c = c
+chained_none p₀ k h m (sort l) h₀ c = c
+chained_none p₀ k h m (const n ls) h₀ c = c
+chained_none p₀ k h m (app f a) h₀ c = c
+chained_none p₀ k h m (pi p n s t b) h₀ c = true-false h₀
+chained_none p₀ k h m (lam p n s t b) h₀ c = true-false h₀
+chained_none p₀ k h m (letᵉ p n t v b d) h₀ c = c
+chained_none p₀ k h m (proj n i e) h₀ c = c
+chained_none p₀ k h m (nat s) h₀ c = c
+chained_none p₀ k h m (str s) h₀ c = c
 
 -- a binder that is no arrow starts a run
 pub run_starts : (e : Expr) → is_binder e ≡ true → is_arrow (first_binder e) ≡ false → 1 ≤ run_length (first_binder e).is_pi e

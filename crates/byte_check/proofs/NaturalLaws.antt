@@ -13,8 +13,8 @@ use Rattle.basics.proofs.Booleans.{and-false, and_intro}
 use Rattle.pool.proofs.Clips.{part_clip}
 use Rattle.pool.specs.Tables.{Pool, string_word, string_at}
 use Rattle.pool.specs.Rules.{is_digit, all_digits, natural}
-use Rattle.byte_check.proofs.RunLaws.{span-split, span_open, span_none}
-use Rattle.byte_check.proofs.Scan.{natural-is, natural-none}
+use Rattle.byte_check.proofs.RunLaws.{span_split, span_open, span_none}
+use Rattle.byte_check.proofs.Scan.{natural_is, natural_none}
 use Rattle.byte_check.specs.declared.naturals.Run.{Run}
 use Rattle.byte_check.specs.Runs.{span, Digits, RunOf, RunAt, mark}
 
@@ -37,8 +37,8 @@ module _ (bs : List ℕ) where
   pub digits_more : (from i : ℕ) → Digits bs from i → is_digit (get_or bs i 0) ≡ true → Digits bs from (i + 1)
   digits_more from i d e j l h = below_more (λ (k : ℕ). from ≤ k → is_digit (get_or bs k 0) ≡ true) i (λ k g m. d k m g) (λ m. e) j h l
 
-  digits-join : (from at to : ℕ) → Digits bs from at → Digits bs at to → Digits bs from to
-  digits-join from at to c d i l h = by_place (ltb i at) refl
+  digits_join : (from at to : ℕ) → Digits bs from at → Digits bs at to → Digits bs from to
+  digits_join from at to c d i l h = by_place (ltb i at) refl
     where
       by_place : (b : Bool) → ltb i at ≡ b → is_digit (get_or bs i 0) ≡ true
       by_place true q = c i l (ltb-true i at q)
@@ -53,7 +53,7 @@ module _ (bs : List ℕ) where
       record {
         begins = b;
         reaches = omega arith;
-        run_of = record { inside = omega arith; digits = digits-join run.from run.to v k.digits d };
+        run_of = record { inside = omega arith; digits = digits_join run.from run.to v k.digits d };
         stops = λ g. s (omega arith);
       }
 
@@ -83,7 +83,7 @@ module _ (bs : List ℕ) where
                 digits-taken (to - from) from (omega arith) (λ i m n. k.run_of.digits i (omega arith) (omega arith))
         by_end false q =
             let l : run.to < to = leb-false to run.to q in
-            ap all_digits (span-split bs from run.to to k.reaches (omega arith)
+            ap all_digits (span_split bs from run.to to k.reaches (omega arith)
             ∙ ap (λ (s : List ℕ). span bs from run.to ++ s) (span_open bs run.to to l h))
             ∙ digits_broken (span bs from run.to) (get_or bs run.to 0) (span bs (run.to + 1) to) (k.stops l)
 
@@ -94,10 +94,10 @@ module _ (bs : List ℕ) where
         let g : get_or (span bs from to) 0 0 ≡ get_or bs from 0 = ap (λ (s : List ℕ). get_or s 0 0) (span_open bs from to l h) in
         ap₂ (λ (m c : ℕ). (eqb m 1 || not (eqb c 48)) && leb to run.to) (sym n) (sym g)
         ∙ ap (λ (b : Bool). (eqb (length (span bs from to)) 1 || not (eqb (get_or (span bs from to) 0 0) 48)) && b) (sym digits_by)
-        ∙ natural-is (span bs from to) (λ z. let e : length (span bs from to) ≡ 0 = z in omega arith)
+        ∙ natural_is (span bs from to) (λ z. let e : length (span bs from to) ≡ 0 = z in omega arith)
 
-  pub natural-empty : (from to : ℕ) → to ≤ from → false ≡ natural (span bs from to)
-  natural-empty from to h = natural-none (span bs from to) (ap length (span_none bs from to h))
+  pub natural_empty : (from to : ℕ) → to ≤ from → false ≡ natural (span bs from to)
+  natural_empty from to h = natural_none (span bs from to) (ap length (span_none bs from to h))
 
 -- what is marked of a string row, whose bytes are cut off at the end of the area
 pub mark_of : (p : Pool) (r from end to : ℕ) (v : ℕ) → from ≡ min (string_word p.names r 0) (length p.bytes)

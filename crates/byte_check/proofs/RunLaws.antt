@@ -86,8 +86,8 @@ ascii_first b s h = let g : b < 0xc0 = omega arith in rw (lt-ltb b 0x80 h, lt-lt
 
 -- parts of the byte area
 module _ (bs : List ℕ) where
-  pub span-split : (from at to : ℕ) → from ≤ at → at ≤ to → span bs from to ≡ span bs from at ++ span bs at to
-  span-split from at to p q =
+  pub span_split : (from at to : ℕ) → from ≤ at → at ≤ to → span bs from to ≡ span bs from at ++ span bs at to
+  span_split from at to p q =
       let e : to - from ≡ (at - from) + (to - at) = omega arith in
       let d : from + (at - from) ≡ at = omega arith in
       ap (λ (n : ℕ). take n (drop from bs)) e
@@ -104,13 +104,13 @@ module _ (bs : List ℕ) where
   span_none from to h = let e : to - from ≡ 0 = omega arith in ap (λ (n : ℕ). take n (drop from bs)) e
 
   -- what the code answers for the bytes from `from` on and before `to`
-  pub valid-none : (from to : ℕ) → to ≤ from → true ≡ utf8 (span bs from to)
+  pub valid_none : (from to : ℕ) → to ≤ from → true ≡ utf8 (span bs from to)
   unfolding utf8 utf8_from
-  valid-none from to h = sym (ap utf8 (span_none from to h))
+  valid_none from to h = sym (ap utf8 (span_none from to h))
 
-  pub valid-inside-point : (from to : ℕ) → from < to → to ≤ length bs → is_follower (get_or bs from 0) ≡ true → false ≡ utf8 (span bs from to)
+  pub valid_inside_point : (from to : ℕ) → from < to → to ≤ length bs → is_follower (get_or bs from 0) ≡ true → false ≡ utf8 (span bs from to)
   unfolding utf8 utf8_from
-  valid-inside-point from to p q f =
+  valid_inside_point from to p q f =
       sym (ap utf8 (span_open from to p q)
       ∙ ap (λ (t : Bool). t && utf8_from (followers (get_or bs from 0)) (lead_bits (get_or bs from 0)) (least_of (get_or bs from 0)) (span bs (from + 1) to))
       (follower_leads_none (get_or bs from 0) f))
@@ -121,7 +121,7 @@ module _ (bs : List ℕ) where
   unfolding utf8
   valid_front from at to p q l h =
       cut_front (span bs from at) 0 0 0 (get_or bs at 0) (span bs (at + 1) to)
-      (sym (ap utf8 (span-split from at to p (omega arith) ∙ ap (λ (s : List ℕ). span bs from at ++ s) (span_open at to q l))) ∙ h)
+      (sym (ap utf8 (span_split from at to p (omega arith) ∙ ap (λ (s : List ℕ). span bs from at ++ s) (span_open at to q l))) ∙ h)
 
   -- from byte `at` on of what is UTF-8
   pub valid_back : (from at to : ℕ) → from ≤ at → at < to → to ≤ length bs → utf8 (span bs from to) ≡ true
@@ -130,17 +130,17 @@ module _ (bs : List ℕ) where
   valid_back from at to p q l h f =
       ap utf8 (span_open at to q l)
       ∙ cut_back (span bs from at) 0 0 0 (get_or bs at 0) (span bs (at + 1) to)
-      (sym (ap utf8 (span-split from at to p (omega arith) ∙ ap (λ (s : List ℕ). span bs from at ++ s) (span_open at to q l))) ∙ h) f
+      (sym (ap utf8 (span_split from at to p (omega arith) ∙ ap (λ (s : List ℕ). span bs from at ++ s) (span_open at to q l))) ∙ h) f
 
   pub valid_on : (from at to : ℕ) → from ≤ at → at ≤ to → utf8 (span bs from at) ≡ true → utf8 (span bs at to) ≡ utf8 (span bs from to)
   unfolding utf8
-  valid_on from at to p q h = sym (ap utf8 (span-split from at to p q) ∙ go_on (span bs from at) 0 0 0 (span bs at to) h)
+  valid_on from at to p q h = sym (ap utf8 (span_split from at to p q) ∙ go_on (span bs from at) 0 0 0 (span bs at to) h)
 
   pub ascii_on : (i to : ℕ) (t : Bool) → i < to → to ≤ length bs → get_or bs i 0 < 0x80 → utf8 (span bs i to) ≡ t → utf8 (span bs (i + 1) to) ≡ t
   ascii_on i to t h l a e = sym (ap utf8 (span_open i to h l) ∙ ascii_first (get_or bs i 0) (span bs (i + 1) to) a) ∙ e
 
   pub ascii_all : (n from to : ℕ) → to - from ≡ n → to ≤ length bs → Ascii bs to → utf8 (span bs from to) ≡ true
-  ascii_all zero from to e l a = sym (valid-none from to (omega arith))
+  ascii_all zero from to e l a = sym (valid_none from to (omega arith))
   ascii_all (suc n) from to e l a =
       let h : from < to = omega arith in
       let k : to - (from + 1) ≡ n = omega arith in
@@ -166,8 +166,8 @@ module _ (bs : List ℕ) where
 
   -- the same in the words of the code
   module _ (from to known : ℕ) (k : Known bs from known) (f : is_follower (get_or bs from 0) ≡ false) (h : from < to) where
-    pub valid-within : to < known → not (is_follower (get_or bs to 0)) ≡ utf8 (span bs from to)
-    valid-within g = sym (valid_front from to known (omega arith) g k.inside (k.valid from (omega arith) (omega arith) f))
+    pub valid_within : to < known → not (is_follower (get_or bs to 0)) ≡ utf8 (span bs from to)
+    valid_within g = sym (valid_front from to known (omega arith) g k.inside (k.valid from (omega arith) (omega arith) f))
 
     pub valid_past : (unread : ℕ) → known ≤ to → unread ≡ max from known → utf8 (span bs unread to) ≡ utf8 (span bs from to)
     valid_past unread g e = by_end (leb known from) refl
@@ -185,51 +185,51 @@ unfolding rising before
 rises_from offset zero h = omega arith
 rises_from offset (suc r) h = leb-true (offset r) (offset (suc r)) h
 
-pub rising-last : (offset : ℕ → ℕ) (r last : ℕ) → last ≡ before offset r → leb last (offset r) ≡ rising offset r
+pub rising_last : (offset : ℕ → ℕ) (r last : ℕ) → last ≡ before offset r → leb last (offset r) ≡ rising offset r
 unfolding rising before
-rising-last offset zero last e = ap (λ (n : ℕ). leb n (offset 0)) e ∙ le-leb 0 (offset 0) (omega arith)
-rising-last offset (suc r) last e = ap (λ (n : ℕ). leb n (offset (suc r))) e
+rising_last offset zero last e = ap (λ (n : ℕ). leb n (offset 0)) e ∙ le-leb 0 (offset 0) (omega arith)
+rising_last offset (suc r) last e = ap (λ (n : ℕ). leb n (offset (suc r))) e
 
-pub before-next : (offset : ℕ → ℕ) (r last : ℕ) → last ≡ offset r → last ≡ before offset (r + 1)
+pub before_next : (offset : ℕ → ℕ) (r last : ℕ) → last ≡ offset r → last ≡ before offset (r + 1)
 unfolding before
-before-next offset r last e = e ∙ sym (ap (before offset) (add-one r))
+before_next offset r last e = e ∙ sym (ap (before offset) (add-one r))
 
 -- a string row, where its bytes end at `end`
 module _ (p : Pool) (r end : ℕ) (e : end ≡ string_word p.names r 0 + string_word p.names r 1) where
   abbrev offsets : ℕ → ℕ
   offsets i = string_word p.names i 0
 
-  string-span : span p.bytes (offsets r) end ≡ string_at p r
+  string_span_lem : span p.bytes (offsets r) end ≡ string_at p r
   unfolding string_at
-  string-span = let n : end - offsets r ≡ string_word p.names r 1 = omega arith in ap (λ (m : ℕ). take m (drop (offsets r) p.bytes)) n
+  string_span_lem = let n : end - offsets r ≡ string_word p.names r 1 = omega arith in ap (λ (m : ℕ). take m (drop (offsets r) p.bytes)) n
 
-  pub string-outside : length p.bytes < end → false ≡ string_ok p r
+  pub string_outside : length p.bytes < end → false ≡ string_ok p r
   unfolding string_ok
-  string-outside h = sym (ap (λ (b : Bool). b && (rising offsets r && utf8 (string_at p r))) (lt-leb _ _ (subst (λ (m : ℕ). length p.bytes < m) e h)))
+  string_outside h = sym (ap (λ (b : Bool). b && (rising offsets r && utf8 (string_at p r))) (lt-leb _ _ (subst (λ (m : ℕ). length p.bytes < m) e h)))
 
   module _ (h : end ≤ length p.bytes) where
-    string-inside : string_ok p r ≡ rising offsets r && utf8 (string_at p r)
+    string_inside : string_ok p r ≡ rising offsets r && utf8 (string_at p r)
     unfolding string_ok
-    string-inside = ap (λ (b : Bool). b && (rising offsets r && utf8 (string_at p r))) (le-leb _ _ (subst (λ (m : ℕ). m ≤ length p.bytes) e h))
+    string_inside = ap (λ (b : Bool). b && (rising offsets r && utf8 (string_at p r))) (le-leb _ _ (subst (λ (m : ℕ). m ≤ length p.bytes) e h))
 
     -- the offset, and the one of the row before, as the code has them
     module _ (offset last : ℕ) (eo : offset ≡ offsets r) (el : last ≡ before offsets r) where
       pub string_falls : offset < last → false ≡ string_ok p r
       string_falls f =
-          sym (string-inside
-          ∙ ap (λ (b : Bool). b && utf8 (string_at p r)) (sym (rising-last offsets r last el) ∙ lt-leb _ _ (subst (λ (n : ℕ). n < last) eo f)))
+          sym (string_inside
+          ∙ ap (λ (b : Bool). b && utf8 (string_at p r)) (sym (rising_last offsets r last el) ∙ lt-leb _ _ (subst (λ (n : ℕ). n < last) eo f)))
 
-      pub string-is : (v : Bool) → last ≤ offset → v ≡ utf8 (span p.bytes offset end) → v ≡ string_ok p r
-      string-is v f q =
+      pub string_is : (v : Bool) → last ≤ offset → v ≡ utf8 (span p.bytes offset end) → v ≡ string_ok p r
+      string_is v f q =
           q
           ∙ ap (λ (n : ℕ). utf8 (span p.bytes n end)) eo
-          ∙ ap utf8 string-span
-          ∙ sym (string-inside
-          ∙ ap (λ (b : Bool). b && utf8 (string_at p r)) (sym (rising-last offsets r last el) ∙ le-leb _ _ (subst (λ (n : ℕ). last ≤ n) eo f)))
+          ∙ ap utf8 string_span_lem
+          ∙ sym (string_inside
+          ∙ ap (λ (b : Bool). b && utf8 (string_at p r)) (sym (rising_last offsets r last el) ∙ le-leb _ _ (subst (λ (n : ℕ). last ≤ n) eo f)))
 
       pub string_ascii : last ≤ offset → (ascii : ℕ) → Ascii p.bytes ascii → end ≤ ascii → true ≡ string_ok p r
       string_ascii f ascii a g =
-          string-is true f (sym (ascii_all p.bytes (end - offset) offset end refl h (λ i l. a i (omega arith))))
+          string_is true f (sym (ascii_all p.bytes (end - offset) offset end refl h (λ i l. a i (omega arith))))
 
   -- what is known after an accepted string
   pub known_next : (known next : ℕ) → Known p.bytes (before offsets r) known → string_ok p r ≡ true → next ≡ max known end
@@ -247,7 +247,7 @@ module _ (p : Pool) (r end : ℕ) (e : end ≡ string_word p.names r 0 + string_
           → Known p.bytes (offsets r) next
       by_end true g h rises valid =
           let u : end ≡ next = omega (arith, leb-true known end g) in
-          subst (λ (m : ℕ). Known p.bytes (offsets r) m) u (known_string p.bytes (offsets r) end h (ap utf8 string-span ∙ valid))
+          subst (λ (m : ℕ). Known p.bytes (offsets r) m) u (known_string p.bytes (offsets r) end h (ap utf8 string_span_lem ∙ valid))
       by_end false g h rises valid =
           let u : known ≡ next = omega (arith, leb-false known end g) in
           subst (λ (m : ℕ). Known p.bytes (offsets r) m) u (known_from p.bytes (before offsets r) (offsets r) known rises k)

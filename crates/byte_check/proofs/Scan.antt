@@ -53,15 +53,15 @@ bad_none ok count n i p q s =
 pub bad_start : (ok : ℕ → Bool) (count n : ℕ) → count ≡ n → first_bad ok (count - 0) 0 ≡ first_bad ok n 0
 bad_start ok count n e = let k : count - 0 ≡ n = omega arith in ap (λ (m : ℕ). first_bad ok m 0) k
 
-pub natural-none : (s : List ℕ) → length s ≡ 0 → false ≡ natural s
+pub natural_none : (s : List ℕ) → length s ≡ 0 → false ≡ natural s
 unfolding natural
-natural-none [] h = refl
-natural-none (b ∷ s) h = absurd (omega arith)
+natural_none [] h = refl
+natural_none (b ∷ s) h = absurd (omega arith)
 
-pub natural-is : (s : List ℕ) → (length s ≡ 0 → ⊥) → (eqb (length s) 1 || not (eqb (get_or s 0 0) 48)) && all_digits s ≡ natural s
+pub natural_is : (s : List ℕ) → (length s ≡ 0 → ⊥) → (eqb (length s) 1 || not (eqb (get_or s 0 0) 48)) && all_digits s ≡ natural s
 unfolding natural all_digits
-natural-is [] h = absurd (h refl)
-natural-is (b ∷ []) h = and-true (is_digit b)
-natural-is (b ∷ c ∷ s) h =
+natural_is [] h = absurd (h refl)
+natural_is (b ∷ []) h = and-true (is_digit b)
+natural_is (b ∷ c ∷ s) h =
     let e : eqb (suc (suc (length s))) 1 ≡ false = ne_eqb (suc (suc (length s))) 1 (λ q. omega arith) in
     ap (λ (x : Bool). (x || not (eqb b 48)) && (is_digit b && (is_digit c && all_digits s))) e

@@ -16,9 +16,9 @@ use Rattle.pool.specs.Areas.{over}
 use Rattle.pool.specs.Tree.{Expr, var, sort, const, app, pi, lam, letᵉ, proj, nat, str, loose, lift, shape, level_shapes, same_shape, same_shapes, same}
 use Rattle.pool.specs.Unfold.{list_at, expr_at}
 use Rattle.pool.specs.Sound.{Sound}
-use Rattle.pool.proofs.TreeLaws.{label, labels_differ, differs_depth, differs_loose, lift-depth, lift-loose, raised, raised_low, raised_high, lift_closed, lift-none}
+use Rattle.pool.proofs.TreeLaws.{label, labels_differ, differs_depth, differs_loose, lift-depth, lift-loose, raised, raised_low, raised_high, lift_closed, lift_none}
 use Rattle.pool.proofs.TreeLaws.{same_self}
-use Rattle.pool.proofs.RowUnfolds.{string-fits}
+use Rattle.pool.proofs.RowUnfolds.{string_fits}
 use Rattle.pool.proofs.ExprUnfolds.{kind_small, depth-word, loose-word, label_word, var_at, sort_at, const_at, app_at, pi_at, lam_at, let_at, proj_at, nat_at, str_at}
 use Rattle.pool.proofs.ExprUnfolds.{sort_ok, const_ok, pi_ok, lam_ok, let_ok, proj_ok, nat_ok, str_ok}
 use Rattle.pool.specs.Ready.{Ready}
@@ -67,8 +67,8 @@ module _ (bs ns ws : List ℕ) (t : Tables) (ready : Ready bs ns ws t) (a b : �
     loose_b : y ≡ loose (expr_at p b)
     loose_b = ey ∙ loose-word p ready.sound b hb
 
-    lifted-is : loose (lift d c (expr_at p a)) ≡ raised d c x
-    lifted-is = lift-loose d c (expr_at p a) ∙ ap (raised d c) (sym loose_a)
+    lifted_is : loose (lift d c (expr_at p a)) ≡ raised d c x
+    lifted_is = lift-loose d c (expr_at p a) ∙ ap (raised d c) (sym loose_a)
 
     kinds_one : expr_word ws a 0 ≡ expr_word ws b 0
     kinds_one = sym ek ∙ ekl ∙ el
@@ -78,7 +78,7 @@ module _ (bs ns ws : List ℕ) (t : Tables) (ready : Ready bs ns ws t) (a b : �
 
     module _ (h : x ≤ c) where
       pub low_differs : (x ≡ y → ⊥) → Answer 0
-      low_differs n = they_differ _ _ (differs_loose _ _ (λ q. n (sym (raised_low d c x h) ∙ sym lifted-is ∙ q ∙ sym loose_b)))
+      low_differs n = they_differ _ _ (differs_loose _ _ (λ q. n (sym (raised_low d c x h) ∙ sym lifted_is ∙ q ∙ sym loose_b)))
 
       pub low_agrees : a ≡ b → Answer 1
       low_agrees e =
@@ -88,7 +88,7 @@ module _ (bs ns ws : List ℕ) (t : Tables) (ready : Ready bs ns ws t) (a b : �
 
     module _ (h : c < x) where
       pub high_differs : (x + d ≡ y → ⊥) → Answer 0
-      high_differs n = they_differ _ _ (differs_loose _ _ (λ q. n (sym (raised_high d c x h) ∙ sym lifted-is ∙ q ∙ sym loose_b)))
+      high_differs n = they_differ _ _ (differs_loose _ _ (λ q. n (sym (raised_high d c x h) ∙ sym lifted_is ∙ q ∙ sym loose_b)))
 
       pub below_differs : y < x → Answer 0
       below_differs l = high_differs (λ q. omega arith)
@@ -99,7 +99,7 @@ module _ (bs ns ws : List ℕ) (t : Tables) (ready : Ready bs ns ws t) (a b : �
       pub not_lifted : d ≡ 0 → a ≡ b → Answer 1
       not_lifted z e =
           they_agree _ _
-          (ap (λ (f : Expr). same f (expr_at p b)) (ap (λ (n : ℕ). lift n c (expr_at p a)) z ∙ lift-none c (expr_at p a) ∙ ap (expr_at p) e)
+          (ap (λ (f : Expr). same f (expr_at p b)) (ap (λ (n : ℕ). lift n c (expr_at p a)) z ∙ lift_none c (expr_at p a) ∙ ap (expr_at p) e)
           ∙ same_self (expr_at p b))
 
 -- ---- by fields and parts
@@ -201,14 +201,14 @@ module _ (d c i j i' j' : ℕ) (ei : i ≡ i') (ej : j ≡ j') where
   abbrev Var : Bool → Type 0
   Var v = v ≡ eqb (cond (ltb i' c) i' (i' + d)) j'
 
-  pub var-low : i < c → Var (eqb i j)
-  var-low h = ap₂ eqb ei ej ∙ rw (lt-ltb i' c (omega arith))
+  pub var_low : i < c → Var (eqb i j)
+  var_low h = ap₂ eqb ei ej ∙ rw (lt-ltb i' c (omega arith))
 
-  pub var-under : c ≤ i → j < i → Var false
-  var-under h l = rw (le-ltb i' c (omega arith)) (sym (ne_eqb (i' + d) j' (λ q. omega arith)))
+  pub var_under : c ≤ i → j < i → Var false
+  var_under h l = rw (le-ltb i' c (omega arith)) (sym (ne_eqb (i' + d) j' (λ q. omega arith)))
 
-  pub var-over : c ≤ i → i ≤ j → Var (eqb (j - i) d)
-  var-over h l = rw (le-ltb i' c (omega arith)) (eqb_agrees (j - i) d (i' + d) j' (λ q. omega arith) (λ q. omega arith))
+  pub var_over : c ≤ i → i ≤ j → Var (eqb (j - i) d)
+  var_over h l = rw (le-ltb i' c (omega arith)) (eqb_agrees (j - i) d (i' + d) j' (λ q. omega arith) (λ q. omega arith))
 
 four_to_seven : (P : ℕ → Type 0) → P 4 → P 5 → P 6 → P 7 → (k : ℕ) → 3 < k → k < 8 → P k
 four_to_seven P a b c d k g h =
@@ -229,12 +229,12 @@ module _ (bs ns ws : List ℕ) (t : Tables) (a b kind : ℕ) (s : OneKind bs ns 
   same_kind e = record { ready = s.ready; a_row = s.a_row; b_row = s.b_row; a_kind = sym e ∙ s.a_kind; b_kind = sym e ∙ s.b_kind }
 
   module _ (m n : ℕ) (em : m ≡ expr_word ws a 1) (en : n ≡ expr_word ws b 1) where
-    pub const-names : kind ≡ 2 → Ready bs ns ws t × (m < N ns) × (n < N ns)
-    const-names e =
+    pub const_names : kind ≡ 2 → Ready bs ns ws t × (m < N ns) × (n < N ns)
+    const_names e =
         (s.ready, rw em (const_ok pool s.ready.sound a s.a_row (at_a 2 e)).0, rw en (const_ok pool s.ready.sound b s.b_row (at_b 2 e)).0)
 
-    pub sort-levels : kind ≡ 1 → Ready bs ns ws t × (m < L ws) × (n < L ws)
-    sort-levels e =
+    pub sort_levels : kind ≡ 1 → Ready bs ns ws t × (m < L ws) × (n < L ws)
+    sort_levels e =
         (s.ready, rw em (sort_ok pool s.ready.sound a s.a_row (at_a 1 e)), rw en (sort_ok pool s.ready.sound b s.b_row (at_b 1 e)))
 
     name_there : (r : ℕ) → r < E ws → expr_word ws r 0 ≡ kind → 3 < kind → kind < 8 → expr_word ws r 1 < N ns
@@ -243,8 +243,8 @@ module _ (bs ns ws : List ℕ) (t : Tables) (a b kind : ℕ) (s : OneKind bs ns 
         (λ q. (pi_ok pool s.ready.sound r h q).0) (λ q. (lam_ok pool s.ready.sound r h q).0)
         (λ q. (let_ok pool s.ready.sound r h q).0) (λ q. (proj_ok pool s.ready.sound r h q).0) kind g l e
 
-    pub named-names : 3 < kind → kind < 8 → Ready bs ns ws t × (m < N ns) × (n < N ns)
-    named-names g h =
+    pub named_names : 3 < kind → kind < 8 → Ready bs ns ws t × (m < N ns) × (n < N ns)
+    named_names g h =
         (s.ready, rw em (name_there a s.a_row (sym s.a_kind) g h), rw en (name_there b s.b_row (sym s.b_kind) g h))
 
     small : kind < 10
@@ -257,14 +257,14 @@ module _ (bs ns ws : List ℕ) (t : Tables) (a b kind : ℕ) (s : OneKind bs ns 
         (λ l q. absurd (omega arith)) (λ l q. absurd (omega arith)) (λ l q. nat_ok pool s.ready.sound r h q) (λ l q. str_ok pool s.ready.sound r h q)
         kind small g e
 
-    pub literal-strings : 8 ≤ kind → (string_word ns m 0 + string_word ns m 1 ≤ length bs) × (string_word ns n 0 + string_word ns n 1 ≤ length bs)
-    literal-strings g = (
-      rw em (string-fits pool s.ready.sound (expr_word ws a 1) (literal a s.a_row (sym s.a_kind) g)),
-      rw en (string-fits pool s.ready.sound (expr_word ws b 1) (literal b s.b_row (sym s.b_kind) g)),
+    pub literal_strings : 8 ≤ kind → (string_word ns m 0 + string_word ns m 1 ≤ length bs) × (string_word ns n 0 + string_word ns n 1 ≤ length bs)
+    literal_strings g = (
+      rw em (string_fits pool s.ready.sound (expr_word ws a 1) (literal a s.a_row (sym s.a_kind) g)),
+      rw en (string_fits pool s.ready.sound (expr_word ws b 1) (literal b s.b_row (sym s.b_kind) g)),
     )
 
-  pub const-lists : (x y : ℕ) → x ≡ expr_word ws a 2 → y ≡ expr_word ws b 2 → kind ≡ 2 → Ready bs ns ws t × (x < K ws) × (y < K ws)
-  const-lists x y ex ey e =
+  pub const_lists : (x y : ℕ) → x ≡ expr_word ws a 2 → y ≡ expr_word ws b 2 → kind ≡ 2 → Ready bs ns ws t × (x < K ws) × (y < K ws)
+  const_lists x y ex ey e =
       (s.ready, rw ex (const_ok pool s.ready.sound a s.a_row (at_a 2 e)).1, rw ey (const_ok pool s.ready.sound b s.b_row (at_b 2 e)).1)
 
 -- ---- all but the parts

@@ -13,7 +13,7 @@ use Rattle.pool.specs.Tables.{Pool, N, L, K, Q, level_word, list_word, list_entr
 use Rattle.pool.specs.Areas.{over}
 use Rattle.pool.specs.Tree.{Shape, Level, zeroˡ, name_shape, level_shape, level_shapes, same_shape, same_shapes}
 use Rattle.pool.specs.Unfold.{name_at, level_at, levels_from, list_at}
-use Rattle.pool.proofs.TreeLaws.{shape_same, shape-equal, shapes_same, labels_differ, levels-equal}
+use Rattle.pool.proofs.TreeLaws.{shape_same, shape_equal, shapes_same, labels_differ, levels_equal_lem}
 use Rattle.pool.proofs.RowUnfolds.{zero_at, succ_at, max_at, imax_at, param_at, succ_ok, succ_rest, max_ok, imax_ok, param_ok, level_kind_small, level_label_word}
 use Rattle.pool.proofs.RowUnfolds.{list_fits, entry-fits}
 use Rattle.compare.specs.Seen.{packed, is_held}
@@ -22,7 +22,7 @@ use Rattle.links.specs.Links.{Clear, Linked, Settled}
 use Rattle.links.proofs.LinkLaws.{clear_owes}
 use Rattle.occurrence.specs.Asked.{Told}
 use Rattle.compare.specs.Equal.{Quick, Compared, levels_same, level_shape_at, EqualLevels, Branches, TwoLevels, lists_same, TwoLists}
-use Rattle.compare.proofs.SeenLaws.{holds_hit, holds-put}
+use Rattle.compare.proofs.SeenLaws.{holds_hit, holds_put}
 
 -- ---- a first look
 
@@ -53,8 +53,8 @@ module _ (bs ns ws : List ℕ) (t : Tables) (ready : Ready bs ns ws t) (a b : �
   abbrev wb : ℕ → ℕ
   wb k = level_word ws b k
 
-  pub one-row : a ≡ b → Quick (levels_same p a b) (Branches p a b) 1
-  one-row e = they_agree _ _ (ap (λ (r : ℕ). levels_same p r b) e ∙ shape_same _)
+  pub one_row : a ≡ b → Quick (levels_same p a b) (Branches p a b) 1
+  one_row e = they_agree _ _ (ap (λ (r : ℕ). levels_same p r b) e ∙ shape_same _)
 
   pub other_kinds : (x y : ℕ) → x ≡ wa 0 → y ≡ wb 0 → (x ≡ y → ⊥) → Quick (levels_same p a b) (Branches p a b) 0
   other_kinds x y ex ey n =
@@ -96,9 +96,9 @@ module _ (bs ns ws : List ℕ) (t : Tables) (ready : Ready bs ns ws t) (a b : �
               );
         }
 
-    both-max : x ≡ 2 → Branches p a b
+    both_max : x ≡ 2 → Branches p a b
     unfolding level_shape same_shape same_bytes
-    both-max q =
+    both_max q =
         let la = max_ok p ready.sound a ha (kind_a 2 q) in
         let lb = max_ok p ready.sound b hb (kind_b 2 q) in
         record {
@@ -123,7 +123,7 @@ module _ (bs ns ws : List ℕ) (t : Tables) (ready : Ready bs ns ws t) (a b : �
         }
 
     pub branches : (x ≡ 0 → ⊥) → x < 4 → Quick (levels_same p a b) (Branches p a b) 2
-    branches n h = they_may _ _ (one_to_three (λ (k : ℕ). x ≡ k → Branches p a b) both_succ both-max both_imax x n h refl)
+    branches n h = they_may _ _ (one_to_three (λ (k : ℕ). x ≡ k → Branches p a b) both_succ both_max both_imax x n h refl)
 
     module _ (n : x ≡ 0 → ⊥) (h : 4 ≤ x) where
       is_param : x ≡ 4
@@ -193,14 +193,14 @@ module _ (bs ns ws : List ℕ) (t : Tables) (known : List ℕ) (a b : ℕ) (s : 
             is₂ : levels_same pool (level_word ws a 2) (level_word ws b 2) ≡ v₂
             is₂ = sym (c₂.answer ∙ ap₂ (levels_same pool) eu ew)
 
-            pub not-two : v₂ ≡ false → Compared (EqualLevels pool) (levels_same pool a b) known₂ false
-            not-two e = record { answer = sym (open_now.both ∙ rw (is₁, y₁, is₂, e)); holds = c₂.holds }
+            pub not_two : v₂ ≡ false → Compared (EqualLevels pool) (levels_same pool a b) known₂ false
+            not_two e = record { answer = sym (open_now.both ∙ rw (is₁, y₁, is₂, e)); holds = c₂.holds }
 
             pub both_agree : v₂ ≡ true → (slot k : ℕ) (known₃ : List ℕ) → k ≡ packed a b 0 → known₃ ≡ set known₂ slot k
                 → Compared (EqualLevels pool) (levels_same pool a b) known₃ true
             both_agree e slot k known₃ ek e₃ =
                 let r : levels_same pool a b ≡ true = open_now.both ∙ rw (is₁, y₁, is₂, e) in
-                record { answer = sym r; holds = rw e₃ (holds-put (EqualLevels pool) known₂ slot k a b 0 c₂.holds ek r) }
+                record { answer = sym r; holds = rw e₃ (holds_put (EqualLevels pool) known₂ slot k a b 0 c₂.holds ek r) }
 
 -- ---- in few steps, and in a pass
 
@@ -215,13 +215,13 @@ module _ (bs ns ws : List ℕ) (t : Tables) (a b : ℕ) (q : ℕ) (quick : Quick
   told_quick = record { no = quick.different; yes = quick.equal }
 
   pub equal_is : levels_same pool₄ a b ≡ true → S a ≡ S b
-  equal_is e = shape-equal (S a) (S b) e
+  equal_is e = shape_equal (S a) (S b) e
 
-  pub is-equal : (x y : ℕ) → S x ≡ S y → levels_same pool₄ x y ≡ true
-  is-equal x y e = subst (λ (z : Shape). same_shape (S x) z ≡ true) e (shape_same (S x))
+  pub is_equal_lem : (x y : ℕ) → S x ≡ S y → levels_same pool₄ x y ≡ true
+  is_equal_lem x y e = subst (λ (z : Shape). same_shape (S x) z ≡ true) e (shape_same (S x))
 
   pub no_glance : q ≡ 0 → S a ≡ S b → ⊥
-  no_glance e h = true-false (sym (is-equal a b h) ∙ quick.different e)
+  no_glance e h = true-false (sym (is_equal_lem a b h) ∙ quick.different e)
 
   pub a_glance : q ≡ 1 → S a ≡ S b
   a_glance e = equal_is (quick.equal e)
@@ -241,20 +241,20 @@ module _ (bs ns ws : List ℕ) (t : Tables) (a b : ℕ) (q : ℕ) (quick : Quick
       by_both = open_then.both ∙ ap₂ ◌&&◌ (ap₂ (levels_same pool₄) (sym ex) (sym ey)) (ap₂ (levels_same pool₄) (sym eu) (sym ew))
 
       pub from_both : S x ≡ S y → S u ≡ S w → S a ≡ S b
-      from_both f g = equal_is (by_both ∙ rw (is-equal x y f, is-equal u w g))
+      from_both f g = equal_is (by_both ∙ rw (is_equal_lem x y f, is_equal_lem u w g))
 
       pub to_both : S a ≡ S b → (S x ≡ S y) × (S u ≡ S w)
       to_both e =
-          let h = and_both (levels_same pool₄ x y) (levels_same pool₄ u w) (sym by_both ∙ is-equal a b e) in
-          (shape-equal (S x) (S y) h.0, shape-equal (S u) (S w) h.1)
+          let h = and_both (levels_same pool₄ x y) (levels_same pool₄ u w) (sym by_both ∙ is_equal_lem a b e) in
+          (shape_equal (S x) (S y) h.0, shape_equal (S u) (S w) h.1)
 
     module _ (x y : ℕ) (ex : x ≡ level_word ws a 1) (ey : y ≡ level_word ws b 1) (v₁ : ℕ) (t₁ : Told (levels_same pool₄ x y) v₁) where
-      pub told-one : (v₁ ≡ 1 → ⊥) → Told (levels_same pool₄ a b) v₁
-      told-one f = record { no = λ z. by_both x y _ _ ex ey refl refl ∙ rw (t₁.no z); yes = λ z. absurd (f z) }
+      pub told_one : (v₁ ≡ 1 → ⊥) → Told (levels_same pool₄ a b) v₁
+      told_one f = record { no = λ z. by_both x y _ _ ex ey refl refl ∙ rw (t₁.no z); yes = λ z. absurd (f z) }
 
-      pub told-two : v₁ ≡ 1 → (u w : ℕ) → u ≡ level_word ws a 2 → w ≡ level_word ws b 2 → (v₂ : ℕ) → Told (levels_same pool₄ u w) v₂
+      pub told_two : v₁ ≡ 1 → (u w : ℕ) → u ≡ level_word ws a 2 → w ≡ level_word ws b 2 → (v₂ : ℕ) → Told (levels_same pool₄ u w) v₂
           → Told (levels_same pool₄ a b) v₂
-      told-two o u w eu ew v₂ t₂ =
+      told_two o u w eu ew v₂ t₂ =
           record {
             no = λ z. by_both x y u w ex ey eu ew ∙ rw (t₁.yes o, t₂.no z);
             yes = λ z. by_both x y u w ex ey eu ew ∙ rw (t₁.yes o, t₂.yes z);
@@ -268,7 +268,7 @@ pub told_pass : (p : Pool) (a b : ℕ) (before after : List ℕ) (v : ℕ) → C
     → Told (levels_same p a b) v
 told_pass p a b before after v c l s =
     record {
-      no = λ e. not_so _ (λ q. s.refuted e (l.up (level_shape_at p) (clear_owes _ _ before c) (shape-equal _ _ q)));
+      no = λ e. not_so _ (λ q. s.refuted e (l.up (level_shape_at p) (clear_owes _ _ before c) (shape_equal _ _ q)));
       yes = λ e. subst (λ (z : Shape). same_shape (level_shape_at p a) z ≡ true) (l.tied (level_shape_at p) (s.holds e)) (shape_same _);
     }
 
@@ -296,14 +296,14 @@ module _ (bs ns ws : List ℕ) (t : Tables) (x y n i : ℕ) (v : Bool) where
 
     module _ (l m : ℕ) (el : l ≡ list_entry ws (x + i)) (em : m ≡ list_entry ws (y + i)) (r : Bool) (er : r ≡ levels_same pool₂ l m)
         (s : lists_same pool₂ (x + i) (y + i) (n - i) ≡ v) where
-      entry-is : levels_same pool₂ (list_entry ws (x + i)) (list_entry ws (y + i)) ≡ r
-      entry-is = sym (er ∙ ap₂ (levels_same pool₂) el em)
+      entry_is : levels_same pool₂ (list_entry ws (x + i)) (list_entry ws (y + i)) ≡ r
+      entry_is = sym (er ∙ ap₂ (levels_same pool₂) el em)
 
       pub entry_differs : r ≡ false → false ≡ v
-      entry_differs q = sym (list_next ∙ rw (entry-is, q)) ∙ s
+      entry_differs q = sym (list_next ∙ rw (entry_is, q)) ∙ s
 
       pub entry_agrees : r ≡ true → lists_same pool₂ (x + (i + 1)) (y + (i + 1)) (n - (i + 1)) ≡ v
-      entry_agrees q = sym (list_next ∙ rw (entry-is, q)) ∙ s
+      entry_agrees q = sym (list_next ∙ rw (entry_is, q)) ∙ s
 
   pub list_start : lists_same pool₂ (x + 0) (y + 0) (n - 0) ≡ lists_same pool₂ x y n
   list_start =
@@ -345,7 +345,7 @@ module _ (bs ns ws : List ℕ) (t : Tables) (ready : Ready bs ns ws t) (a b : �
     pub other_lengths : (m ≡ n → ⊥) → false ≡ lists
     unfolding list_at
     other_lengths ne =
-        sym (not_so _ (λ q. ne (em ∙ sym (from_length _ _) ∙ ap length (levels-equal (list_at pool₃ a) (list_at pool₃ b) q) ∙ from_length _ _ ∙ sym en)))
+        sym (not_so _ (λ q. ne (em ∙ sym (from_length _ _) ∙ ap length (levels_equal_lem (list_at pool₃ a) (list_at pool₃ b) q) ∙ from_length _ _ ∙ sym en)))
 
     module _ (e : m ≡ n) (x y : ℕ) (ex : x ≡ list_word ws a 0) (ey : y ≡ list_word ws b 0) where
       pub lists_there : TwoLists bs ns ws t x y m

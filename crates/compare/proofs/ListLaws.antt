@@ -11,7 +11,7 @@ use Rattle.pool.specs.Tables.{Pool, list_entry}
 use Rattle.pool.specs.Areas.{over}
 use Rattle.pool.specs.Tree.{Shape, level_shapes, same_shape}
 use Rattle.pool.specs.Unfold.{levels_from}
-use Rattle.pool.proofs.TreeLaws.{shape_same, shape-equal}
+use Rattle.pool.proofs.TreeLaws.{shape_same, shape_equal}
 use Rattle.links.specs.Links.{Clear, Linked, Settled}
 use Rattle.links.proofs.LinkLaws.{clear_owes}
 use Rattle.occurrence.specs.Asked.{Told}
@@ -20,12 +20,12 @@ use Rattle.compare.proofs.LevelLaws.{entry_differs}
 
 -- ---- what is owed of two lists
 
-pub lists-none : (ws l : List ℕ) (x y : ℕ) → LinkedLists ws l l x y 0
-lists-none ws l x y = record { down = λ S o. o; tied = λ S o i h. absurd (omega arith); up = λ S o e. o }
+pub lists_none : (ws l : List ℕ) (x y : ℕ) → LinkedLists ws l l x y 0
+lists_none ws l x y = record { down = λ S o. o; tied = λ S o i h. absurd (omega arith); up = λ S o e. o }
 
-pub lists-more : (ws before now after : List ℕ) (x y i l m : ℕ) → LinkedLists ws before now x y i → l ≡ list_entry ws (x + i)
+pub lists_more : (ws before now after : List ℕ) (x y i l m : ℕ) → LinkedLists ws before now x y i → l ≡ list_entry ws (x + i)
     → m ≡ list_entry ws (y + i) → Linked now after l m → LinkedLists ws before after x y (i + 1)
-lists-more ws before now after x y i l m k el em n =
+lists_more ws before now after x y i l m k el em n =
     record {
       down = λ S o. k.down S (n.down S o);
       tied = λ S o. below_more (λ (j : ℕ). S (list_entry ws (x + j)) ≡ S (list_entry ws (y + j))) i (k.tied S (n.down S o))
@@ -52,32 +52,32 @@ module _ (p : Pool) where
   moved : (x i : ℕ) → S (entry (x + suc i)) ≡ S (entry (suc x + i))
   moved x i = let e : x + suc i ≡ suc x + i = omega arith in ap (λ (k : ℕ). S (entry k)) e
 
-  lists-step : (n x y : ℕ) → lists_same p x y (suc n) ≡ levels_same p (entry x) (entry y) && lists_same p (suc x) (suc y) n
+  lists_step : (n x y : ℕ) → lists_same p x y (suc n) ≡ levels_same p (entry x) (entry y) && lists_same p (suc x) (suc y) n
   unfolding levels_from level_shapes same_shape
-  lists-step n x y = refl
+  lists_step n x y = refl
 
   lists_agree : (n x y : ℕ) → ((i : ℕ) → i < n → S (entry (x + i)) ≡ S (entry (y + i))) → lists_same p x y n ≡ true
   unfolding levels_from level_shapes same_shape
   lists_agree zero x y h = refl
   lists_agree (suc n) x y h =
       let rest = lists_agree n (suc x) (suc y) (λ i l. sym (moved x i) ∙ h (suc i) (omega arith) ∙ moved y i) in
-      lists-step n x y ∙ rw (same_first x y (h 0 (omega arith)), rest)
+      lists_step n x y ∙ rw (same_first x y (h 0 (omega arith)), rest)
 
   lists_agreed : (n x y : ℕ) → lists_same p x y n ≡ true → (i : ℕ) → i < n → S (entry (x + i)) ≡ S (entry (y + i))
   lists_agreed zero x y e i h = absurd (omega arith)
   lists_agreed (suc n) x y e zero h =
-      let both = and_both (levels_same p (entry x) (entry y)) (lists_same p (suc x) (suc y) n) (sym (lists-step n x y) ∙ e) in
+      let both = and_both (levels_same p (entry x) (entry y)) (lists_same p (suc x) (suc y) n) (sym (lists_step n x y) ∙ e) in
       let ex : x + 0 ≡ x = omega arith in
       let ey : y + 0 ≡ y = omega arith in
-      ap (λ (k : ℕ). S (entry k)) ex ∙ shape-equal (S (entry x)) (S (entry y)) both.0 ∙ ap (λ (k : ℕ). S (entry k)) (sym ey)
+      ap (λ (k : ℕ). S (entry k)) ex ∙ shape_equal (S (entry x)) (S (entry y)) both.0 ∙ ap (λ (k : ℕ). S (entry k)) (sym ey)
   lists_agreed (suc n) x y e (suc i) h =
-      let both = and_both (levels_same p (entry x) (entry y)) (lists_same p (suc x) (suc y) n) (sym (lists-step n x y) ∙ e) in
+      let both = and_both (levels_same p (entry x) (entry y)) (lists_same p (suc x) (suc y) n) (sym (lists_step n x y) ∙ e) in
       moved x i ∙ lists_agreed n (suc x) (suc y) both.1 i (omega arith) ∙ sym (moved y i)
 
   -- a pass over what a clear array and two lists owe
-  pub told-lists : (x y n : ℕ) (before after : List ℕ) (v : ℕ) → Clear before → LinkedLists p.words before after x y n → Settled S after v
+  pub told_lists : (x y n : ℕ) (before after : List ℕ) (v : ℕ) → Clear before → LinkedLists p.words before after x y n → Settled S after v
       → Told (lists_same p x y n) v
-  told-lists x y n before after v c l s =
+  told_lists x y n before after v c l s =
       record {
         no = λ e. not_so _ (λ q. s.refuted e (l.up S (clear_owes _ _ before c) (lists_agreed n x y q)));
         yes = λ e. lists_agree n x y (l.tied S (s.holds e));
@@ -86,10 +86,10 @@ module _ (p : Pool) where
 -- ---- in few steps
 
 -- a level that is not told to be equal ends the list
-pub entry-stops : (bs ns ws : List ℕ) (t : Tables) (x y n i : ℕ) (asked : Bool) → i < n → (l m : ℕ) → l ≡ list_entry ws (x + i)
+pub entry_stops : (bs ns ws : List ℕ) (t : Tables) (x y n i : ℕ) (asked : Bool) → i < n → (l m : ℕ) → l ≡ list_entry ws (x + i)
     → m ≡ list_entry ws (y + i) → lists_same (over bs ns ws) (x + i) (y + i) (n - i) ≡ asked → (v : ℕ) → Told (levels_same (over bs ns ws) l m) v
     → (v ≡ 1 → ⊥) → Told asked v
-entry-stops bs ns ws t x y n i asked h l m el em s v told f =
+entry_stops bs ns ws t x y n i asked h l m el em s v told f =
     record {
       no = λ e. sym (entry_differs bs ns ws t x y n i asked h l m el em false (sym (told.no e)) s refl);
       yes = λ e. absurd (f e);

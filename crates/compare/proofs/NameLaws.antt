@@ -17,15 +17,15 @@ use Rattle.pool.specs.Areas.{over}
 use Rattle.pool.specs.Tree.{Name, anonymous, Shape, name_shape, same_shape}
 use Rattle.pool.specs.Unfold.{name_at}
 use Rattle.pool.proofs.Clips.{drop_all}
-use Rattle.pool.proofs.TreeLaws.{bytes-equal, bytes_same, shape_same, labels_differ}
-use Rattle.pool.proofs.RowUnfolds.{anonymous_at, string_at_lem, number_at, string_ok_lem, number_ok, name_kind_small, name_label_word, string-fits}
+use Rattle.pool.proofs.TreeLaws.{bytes_equal, bytes_same, shape_same, labels_differ}
+use Rattle.pool.proofs.RowUnfolds.{anonymous_at, string_at_lem, number_at, string_ok_lem, number_ok, name_kind_small, name_label_word, string_fits}
 use Rattle.pool.specs.Ready.{Ready}
 use Rattle.compare.specs.Equal.{string_of, number_of, TwoNames, ends_same}
 
 -- ---- strings
 
-pub bytes-differ : (x y : List ℕ) → (length x ≡ length y → ⊥) → false ≡ same_bytes x y
-bytes-differ x y n = sym (not_so (same_bytes x y) (λ q. n (ap length (bytes-equal x y q))))
+pub bytes_differ : (x y : List ℕ) → (length x ≡ length y → ⊥) → false ≡ same_bytes x y
+bytes_differ x y n = sym (not_so (same_bytes x y) (λ q. n (ap length (bytes_equal x y q))))
 
 module _ (x y : List ℕ) (i : ℕ) (hx : i < length x) (hy : i < length y) (v : Bool) where
   bytes_next : same_bytes (drop i x) (drop i y) ≡ eqb (get_or x i 0) (get_or y i 0) && same_bytes (drop (i + 1) x) (drop (i + 1) y)
@@ -53,8 +53,8 @@ pub bytes_end : (x y : List ℕ) (i : ℕ) (v : Bool) → length x ≤ i → len
 unfolding same_bytes
 bytes_end x y i v hx hy s = sym (ap₂ same_bytes (drop_all i x hx) (drop_all i y hy)) ∙ s
 
-pub strings-same : (bs ns : List ℕ) (a b : ℕ) → a ≡ b → true ≡ same_bytes (string_of bs ns a) (string_of bs ns b)
-strings-same bs ns a b e =
+pub strings_same : (bs ns : List ℕ) (a b : ℕ) → a ≡ b → true ≡ same_bytes (string_of bs ns a) (string_of bs ns b)
+strings_same bs ns a b e =
     sym (ap (λ (k : ℕ). same_bytes (string_of bs ns k) (string_of bs ns b)) e ∙ bytes_same (string_of bs ns b))
 
 part_is : (l : List ℕ) (x n e x' n' : ℕ) → x ≡ x' → e ≡ x + n → n ≡ n' → take (e - x) (drop x l) ≡ take n' (drop x' l)
@@ -69,11 +69,11 @@ parts_same_lem bs ns a b x m y n v ex em ey en e =
 -- ---- names
 
 -- a number is 1 or 2
-one-or-two : (P : ℕ → Type 0) → P 1 → P 2 → (k : ℕ) → (k ≡ 0 → ⊥) → k < 3 → P k
-one-or-two P p q zero n h = absurd (n refl)
-one-or-two P p q (suc zero) n h = p
-one-or-two P p q (suc (suc zero)) n h = q
-one-or-two P p q (suc (suc (suc k))) n h = absurd (omega arith)
+one_or_two : (P : ℕ → Type 0) → P 1 → P 2 → (k : ℕ) → (k ≡ 0 → ⊥) → k < 3 → P k
+one_or_two P p q zero n h = absurd (n refl)
+one_or_two P p q (suc zero) n h = p
+one_or_two P p q (suc (suc zero)) n h = q
+one_or_two P p q (suc (suc (suc k))) n h = absurd (omega arith)
 
 module _ (bs ns ws : List ℕ) (t : Tables) (kind a b : ℕ) (s : TwoNames bs ns ws t kind a b) where
   abbrev name_of : ℕ → Shape
@@ -89,16 +89,16 @@ module _ (bs ns ws : List ℕ) (t : Tables) (kind a b : ℕ) (s : TwoNames bs ns
   kind_below = rw s.a_kind (name_kind_small (over bs ns ws) s.ready.sound a s.a_row)
 
   -- the strings' rows
-  pub string-rows : kind ≡ 1 → (string_word ns (wa 2) 0 + string_word ns (wa 2) 1 ≤ length bs) × (string_word ns (wb 2) 0 + string_word ns (wb 2) 1 ≤ length bs)
-  string-rows e = (
-    string-fits (over bs ns ws) s.ready.sound (wa 2) (string_ok_lem (over bs ns ws) s.ready.sound a s.a_row (sym s.a_kind ∙ e)).1,
-    string-fits (over bs ns ws) s.ready.sound (wb 2) (string_ok_lem (over bs ns ws) s.ready.sound b s.b_row (sym s.b_kind ∙ e)).1,
+  pub string_rows : kind ≡ 1 → (string_word ns (wa 2) 0 + string_word ns (wa 2) 1 ≤ length bs) × (string_word ns (wb 2) 0 + string_word ns (wb 2) 1 ≤ length bs)
+  string_rows e = (
+    string_fits (over bs ns ws) s.ready.sound (wa 2) (string_ok_lem (over bs ns ws) s.ready.sound a s.a_row (sym s.a_kind ∙ e)).1,
+    string_fits (over bs ns ws) s.ready.sound (wb 2) (string_ok_lem (over bs ns ws) s.ready.sound b s.b_row (sym s.b_kind ∙ e)).1,
   )
 
   -- the prefixes are lower
   pub prefixes : (wa 1 < a) × (wb 1 < b)
   prefixes =
-      one-or-two (λ (k : ℕ). kind ≡ k → (wa 1 < a) × (wb 1 < b))
+      one_or_two (λ (k : ℕ). kind ≡ k → (wa 1 < a) × (wb 1 < b))
       (λ e. (
         (string_ok_lem (over bs ns ws) s.ready.sound a s.a_row (sym s.a_kind ∙ e)).0,
         (string_ok_lem (over bs ns ws) s.ready.sound b s.b_row (sym s.b_kind ∙ e)).0,
@@ -107,7 +107,7 @@ module _ (bs ns ws : List ℕ) (t : Tables) (kind a b : ℕ) (s : TwoNames bs ns
         number_ok (over bs ns ws) s.ready.sound a s.a_row (sym s.a_kind ∙ e),
         number_ok (over bs ns ws) s.ready.sound b s.b_row (sym s.b_kind ∙ e),
       ))
-      kind s.no-root kind_below refl
+      kind s.no_root kind_below refl
 
   by_string : kind ≡ 1 → same_shape (name_of a) (name_of b) ≡ ends_same bs ns 1 a b && same_shape (name_of (wa 1)) (name_of (wb 1))
   unfolding ends_same name_shape same_shape string_at
@@ -130,11 +130,11 @@ module _ (bs ns ws : List ℕ) (t : Tables) (kind a b : ℕ) (s : TwoNames bs ns
 
   by_ends : same_shape (name_of a) (name_of b) ≡ ends_same bs ns kind a b && same_shape (name_of (wa 1)) (name_of (wb 1))
   by_ends =
-      one-or-two (λ (k : ℕ). kind ≡ k → same_shape (name_of a) (name_of b) ≡ ends_same bs ns k a b && same_shape (name_of (wa 1)) (name_of (wb 1)))
-      by_string by_number kind s.no-root kind_below refl
+      one_or_two (λ (k : ℕ). kind ≡ k → same_shape (name_of a) (name_of b) ≡ ends_same bs ns k a b && same_shape (name_of (wa 1)) (name_of (wb 1)))
+      by_string by_number kind s.no_root kind_below refl
 
-  pub ends-differ : (e : Bool) → e ≡ ends_same bs ns kind a b → e ≡ false → (v : Bool) → same_shape (name_of a) (name_of b) ≡ v → false ≡ v
-  ends-differ e q n v h = sym (by_ends ∙ ap (λ (x : Bool). x && same_shape (name_of (wa 1)) (name_of (wb 1))) (sym q ∙ n)) ∙ h
+  pub ends_differ : (e : Bool) → e ≡ ends_same bs ns kind a b → e ≡ false → (v : Bool) → same_shape (name_of a) (name_of b) ≡ v → false ≡ v
+  ends_differ e q n v h = sym (by_ends ∙ ap (λ (x : Bool). x && same_shape (name_of (wa 1)) (name_of (wb 1))) (sym q ∙ n)) ∙ h
 
   pub ends_same_lem : (e : Bool) → e ≡ ends_same bs ns kind a b → e ≡ true → (v : Bool) → same_shape (name_of a) (name_of b) ≡ v
       → (x y : ℕ) → x ≡ wa 1 → y ≡ wb 1 → same_shape (name_of x) (name_of y) ≡ v
@@ -156,7 +156,7 @@ module _ (bs ns ws : List ℕ) (t : Tables) (a b : ℕ) (ready : Ready bs ns ws 
   pub same_row : a ≡ b → true ≡ v
   same_row e = sym (ap (λ (r : ℕ). same_shape (name_shape (name_at (over bs ns ws) r)) (name_shape (name_at (over bs ns ws) b))) e ∙ shape_same _) ∙ h
 
-pub two-names : (bs ns ws : List ℕ) (t : Tables) (kind kind' a b : ℕ) → Ready bs ns ws t → a < N ns → b < N ns → kind ≡ name_word ns a 0
+pub two_names : (bs ns ws : List ℕ) (t : Tables) (kind kind' a b : ℕ) → Ready bs ns ws t → a < N ns → b < N ns → kind ≡ name_word ns a 0
     → kind' ≡ name_word ns b 0 → kind ≡ kind' → (kind ≡ 0 → ⊥) → TwoNames bs ns ws t kind a b
-two-names bs ns ws t kind kind' a b ready ha hb ea eb e n =
-    record { ready = ready; a_row = ha; b_row = hb; a_kind = ea; b_kind = e ∙ eb; no-root = n }
+two_names bs ns ws t kind kind' a b ready ha hb ea eb e n =
+    record { ready = ready; a_row = ha; b_row = hb; a_kind = ea; b_kind = e ∙ eb; no_root = n }

@@ -51,8 +51,8 @@ split a b a' b' h h' e = by (ltb a a') refl (ltb a' a) refl
         let s : a ≡ a' = omega arith in
         (s, omega arith)
 
-split-low : (u c u' c' : ℕ) → c < 16384 → c' < 16384 → u * 16384 + c + 1 ≡ u' * 16384 + c' + 1 → (u ≡ u') × (c ≡ c')
-split-low u c u' c' h h' e = by (ltb u u') refl (ltb u' u) refl
+split_low : (u c u' c' : ℕ) → c < 16384 → c' < 16384 → u * 16384 + c + 1 ≡ u' * 16384 + c' + 1 → (u ≡ u') × (c ≡ c')
+split_low u c u' c' h h' e = by (ltb u u') refl (ltb u' u) refl
   where
     by : (x : Bool) → ltb u u' ≡ x → (y : Bool) → ltb u' u ≡ y → (u ≡ u') × (c ≡ c')
     by true p y q = let l : u < u' = ltb-true u u' p in absurd (omega arith)
@@ -69,7 +69,7 @@ packed-one a b c a' b' c' m e e' =
     let f : Fit a b c (suc m) = fit a b c m e in
     let f' : Fit a' b' c' (suc m) = fit a' b' c' m e' in
     let low : (a * 16777216 + b ≡ a' * 16777216 + b') × (c ≡ c') =
-    split-low (a * 16777216 + b) c (a' * 16777216 + b') c' f.c_fits f'.c_fits (sym f.is ∙ f'.is) in
+    split_low (a * 16777216 + b) c (a' * 16777216 + b') c' f.c_fits f'.c_fits (sym f.is ∙ f'.is) in
     let high : (a ≡ a') × (b ≡ b') = split a b a' b' f.b_fits f'.b_fits low.0 in
     (high.0, high.1, low.1)
 
@@ -84,8 +84,8 @@ module _ (P : ℕ → ℕ → ℕ → Type 0) where
   zeros (suc n) zero = refl
   zeros (suc n) (suc j) = zeros n j
 
-  pub holds-none : (n : ℕ) → Holds P (replicate n 0)
-  holds-none n j a b c m e k = absurd (let z : 0 ≡ suc m = sym (zeros n j) ∙ e in omega arith)
+  pub holds_none : (n : ℕ) → Holds P (replicate n 0)
+  holds_none n j a b c m e k = absurd (let z : 0 ≡ suc m = sym (zeros n j) ∙ e in omega arith)
 
   -- what the slot holds is true
   pub holds_hit : (seen : List ℕ) (slot k a b c : ℕ) → Holds P seen → k ≡ packed a b c → is_held seen slot k ≡ true → P a b c
@@ -94,8 +94,8 @@ module _ (P : ℕ → ℕ → ℕ → Type 0) where
       h slot a b c m (eqb-true (get_or seen slot 0) (suc m) (and_right (ltb 0 (suc m)) _ y)) (sym e)
 
   -- one more that is true
-  pub holds-put : (seen : List ℕ) (slot k a b c : ℕ) → Holds P seen → k ≡ packed a b c → P a b c → Holds P (set seen slot k)
-  holds-put seen slot k a b c h e y j a' b' c' m q q' = there (eqb j slot) refl (ltb slot (length seen)) refl
+  pub holds_put : (seen : List ℕ) (slot k a b c : ℕ) → Holds P seen → k ≡ packed a b c → P a b c → Holds P (set seen slot k)
+  holds_put seen slot k a b c h e y j a' b' c' m q q' = there (eqb j slot) refl (ltb slot (length seen)) refl
     where
       there : (x : Bool) → eqb j slot ≡ x → (z : Bool) → ltb slot (length seen) ≡ z → P a' b' c'
       there false p z r = h j a' b' c' m (sym (get_or-set_other seen slot j k 0 (eqb-false j slot p)) ∙ q) q'

@@ -26,7 +26,7 @@ pub record TwoNames (bs ns ws : List ℕ) (t : Tables) (kind a b : ℕ) : Type 0
   pub b_row : b < N ns
   pub a_kind : kind ≡ name_word ns a 0
   pub b_kind : kind ≡ name_word ns b 0
-  pub no-root : kind ≡ 0 → ⊥
+  pub no_root : kind ≡ 0 → ⊥
 
 -- whether their last parts are equal
 unfoldable pub ends_same : List ℕ → List ℕ → ℕ → ℕ → ℕ → Bool

@@ -12,7 +12,7 @@ use Rattle.pool.specs.Areas.{TablesOf}
 use Rattle.pool.specs.Ready.{Ready}
 use Rattle.pool_check.specs.declared.Verdict.{Verdict}
 use Rattle.pool_check.specs.Check.{is_accepted, verdict}
-use Rattle.pool_check.proofs.Acceptance.{accepted, accepted-is}
+use Rattle.pool_check.proofs.Acceptance.{accepted, accepted_is}
 use Rattle.difference.specs.Order.{first_pair}
 use Rattle.difference.specs.Walks.{Compares}
 use Rattle.comparison.specs.declared.Compared.TheVariants.{Equal, Differ, Pool, Root}
@@ -22,9 +22,9 @@ module _ (bs ws : List ℕ) (first second : ℕ) (v : Verdict) (ev : v ≡ verdi
   judged : is_accepted (verdict bs ws) ≡ r
   judged = sym (er ∙ ap is_accepted ev)
 
-  pub pool-refused : r ≡ false → Pool v ≡ comparison bs ws first second
+  pub pool_refused : r ≡ false → Pool v ≡ comparison bs ws first second
   unfolding comparison decided
-  pool-refused e = ap Pool ev ∙ sym (rw (judged ∙ e))
+  pool_refused e = ap Pool ev ∙ sym (rw (judged ∙ e))
 
   module _ (t : Tables) (tables : TablesOf ws ws t) (q : Bool) (eq : q ≡ ltb first t.exprs && ltb second t.exprs) (y : r ≡ true) where
     present : ltb first (E ws) && ltb second (E ws) ≡ q
@@ -38,7 +38,7 @@ module _ (bs ws : List ℕ) (first second : ℕ) (v : Verdict) (ev : v ≡ verdi
       pub ask_compare : (Ready bs ws ws t) × (first < E ws) × (second < E ws)
       ask_compare =
           let h = and_both (ltb first (E ws)) (ltb second (E ws)) (present ∙ z) in (
-            record { sound = (accepted bs ws (sym ev ∙ accepted-is v (sym er ∙ y))).1; tables = tables },
+            record { sound = (accepted bs ws (sym ev ∙ accepted_is v (sym er ∙ y))).1; tables = tables },
             ltb-true first (E ws) h.0,
             ltb-true second (E ws) h.1,
           )
@@ -48,13 +48,13 @@ module _ (bs ws : List ℕ) (first second : ℕ) (v : Verdict) (ev : v ≡ verdi
       answered = rw (judged ∙ y, present ∙ z)
 
       module _ (n a b : ℕ) (c : Compares (first_pair (pool bs ws) 0 first second) 0 n a b) where
-        pub rows-equal : n ≡ 1 → Equal ≡ comparison bs ws first second
+        pub rows_equal : n ≡ 1 → Equal ≡ comparison bs ws first second
         unfolding answer_of
-        rows-equal e = sym (answered ∙ ap answer_of (c.yes e))
+        rows_equal e = sym (answered ∙ ap answer_of (c.yes e))
 
-        pub rows-differ : (n ≡ 1 → ⊥) → Differ a b ≡ comparison bs ws first second
+        pub rows_differ : (n ≡ 1 → ⊥) → Differ a b ≡ comparison bs ws first second
         unfolding answer_of
-        rows-differ m = by (eqb n 0) refl
+        rows_differ m = by (eqb n 0) refl
           where
             by : (k : Bool) → eqb n 0 ≡ k → Differ a b ≡ comparison bs ws first second
             by true e = sym (answered ∙ ap answer_of (c.no (borrow.Author.Tests.eqb-true n 0 e)))

@@ -8,7 +8,7 @@ use Rattle.pool.specs.Tables.{Pool, E, pool}
 use Rattle.pool.specs.Ready.{Ready}
 use Rattle.pool.specs.Tree.{Expr, forget, same}
 use Rattle.pool.specs.Unfold.{expr_at}
-use Rattle.pool.proofs.TreeLaws.{lift-none, same_forgets, forgets_same}
+use Rattle.pool.proofs.TreeLaws.{lift_none, same_forgets, forgets_same}
 use Rattle.difference.specs.Order.{equal, first_pair}
 use Rattle.difference.proofs.OrderLaws.{is_equal, equal_is, equal_trees}
 
@@ -19,7 +19,7 @@ module _ (bs ws : List ℕ) (t : Tables) (ready : Ready bs ws ws t) (a b : ℕ) 
   says_equal : is_equal (first_pair p 0 a b) ≡ same (expr_at p a) (expr_at p b)
   unfolding first_pair
   says_equal =
-      equal_trees bs ws ws t ready (suc a) 0 0 a b ha hb (omega arith) ∙ ap (λ (e : Expr). same e (expr_at p b)) (lift-none 0 (expr_at p a))
+      equal_trees bs ws ws t ready (suc a) 0 0 a b ha hb (omega arith) ∙ ap (λ (e : Expr). same e (expr_at p b)) (lift_none 0 (expr_at p a))
 
   -- "A tree is a root's full unfolding": two trees are equal once their places are forgotten
   pub equal_where_trees_are : forget (expr_at p a) ≡ forget (expr_at p b) → first_pair p 0 a b ≡ equal

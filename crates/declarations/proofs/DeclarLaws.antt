@@ -21,7 +21,7 @@ use Rattle.pool.specs.Sound.{Sound}
 use Rattle.basics.proofs.Booleans.{and_left, and_right}
 use Rattle.pieces.specs.Docs.{◌⊹◌, quoted, G, Parenable, under}
 use Rattle.pieces.specs.Words.{word_bytes}
-use Rattle.pieces.proofs.Emitting.{emit-stopped}
+use Rattle.pieces.proofs.Emitting.{emit_stopped}
 use Rattle.binders.specs.declared.stack.Stack.{Stack}
 use Rattle.binders.specs.Runs.{leading, following}
 use Rattle.binders.specs.Binders.{Binder, binders, chain_body, pushed, in_force, is_named_pi, telescope, binders_par}
@@ -35,12 +35,12 @@ use Rattle.pieces.specs.Puts.{join_piece}
 use Rattle.pretty_printer.specs.Parts.{printed, in_scope, chain_part, groups_part}
 use Rattle.declarations.specs.Heads.{Declared, TakenEnd, head_part, type_part, value_part, def_part, def_start, def_parts, axiom_part, axiom_start}
 use Rattle.binders.proofs.RenameLaws.{rename_agrees, rename-same, lift_adds}
-use Rattle.binders.proofs.ScopeLaws.{chain_length_lem, scope-up, Under, chain_is_scoped, body-is-scoped, names_are_pushed, place_past}
+use Rattle.binders.proofs.ScopeLaws.{chain_length_lem, scope_up, Under, chain_is_scoped, body_is_scoped, names_are_pushed, place_past}
 use Rattle.pretty_printer.proofs.ChainLaws.{leading_takes, following_drops, run_length_lem}
 use Rattle.binders.proofs.ViewLaws.{binder_row, binder_at, length_none}
 use Rattle.binders.proofs.DropLaws.{Later, later, length-scoped, run-within}
 use Rattle.pretty_printer.proofs.CallLaws.{binders_made, length_renamed, in_force_lem}
-use Rattle.declarations.proofs.TakenLaws.{taken-few}
+use Rattle.declarations.proofs.TakenLaws.{taken_few}
 use Rattle.binders.specs.Options.{PpOptions, indented}
 use Rattle.binders.specs.Shown.{NamesInForce}
 
@@ -134,38 +134,38 @@ filled (suc n) [] f h e = omega arith
 filled (suc n) (x ∷ xs) f h e = omega arith
 
 module _ (opts : PpOptions) (pp : Expr → Parenable) where
-  no-taken : (l : List Binder) (T : Marked) (st : State) → l ≡ [] →
+  no_taken : (l : List Binder) (T : Marked) (st : State) → l ≡ [] →
       put_join (put_text (word_bytes 26) (put_join (put_text (word_bytes 24) (put_join (emit T (put_text (word_bytes 25) st)))))) ≡ emit (def_rest opts pp l T) st
   unfolding def_rest emit quoted
-  no-taken l T st e = rw e
+  no_taken l T st e = rw e
 
-  some-taken : (l : List Binder) (T : Marked) (st : State) → (length l ≡ 0 → ⊥) →
+  some_taken : (l : List Binder) (T : Marked) (st : State) → (length l ≡ 0 → ⊥) →
       put_group
       (put_join (put_text (word_bytes 26) (put_join (put_text (word_bytes 24)
       (put_join (emit T (put_join (put_text (word_bytes 25) (put_join (put_text (word_bytes 24) (put_nest opts.indent (put_group (emit (telescope opts pp l) st)))))))))))))
       ≡ emit (def_rest opts pp l T) st
   unfolding def_rest emit quoted
-  some-taken [] T st f = absurd (f refl)
-  some-taken (x ∷ xs) T st f = refl
+  some_taken [] T st f = absurd (f refl)
+  some_taken (x ∷ xs) T st f = refl
 
-  no-leading : (l : List Binder) (T : Marked) (st : State) → l ≡ [] →
+  no_leading : (l : List Binder) (T : Marked) (st : State) → l ≡ [] →
       put_nest opts.indent (put_group (put_join (put_group (emit T (put_join (put_break 1 (put_text (word_bytes 25) st))))))) ≡ emit (axiom_rest opts pp l T) st
   unfolding axiom_rest emit quoted
-  no-leading l T st e = rw e
+  no_leading l T st e = rw e
 
-  some-leading : (l : List Binder) (T : Marked) (st : State) → (length l ≡ 0 → ⊥) →
+  some_leading : (l : List Binder) (T : Marked) (st : State) → (length l ≡ 0 → ⊥) →
       put_nest opts.indent (put_group (put_join (put_group (emit T (put_join (put_break 1 (put_join (put_text (word_bytes 25) (put_join (put_text (word_bytes 24) (emit (telescope opts pp l) st)))))))))))
       ≡ emit (axiom_rest opts pp l T) st
   unfolding axiom_rest emit quoted
-  some-leading [] T st f = absurd (f refl)
-  some-leading (x ∷ xs) T st f = refl
+  some_leading [] T st f = absurd (f refl)
+  some_leading (x ∷ xs) T st f = refl
 
 module _ (opts : PpOptions) (p : Pool) (k : Stack) where
-  pub rest-none : (count : ℕ) (e e₁ : Expr) (st : State) → count ≡ 0 → e₁ ≡ drop_chain count e →
+  pub rest_none : (count : ℕ) (e e₁ : Expr) (st : State) → count ≡ 0 → e₁ ≡ drop_chain count e →
       put_join (put_text (word_bytes 26) (put_join (put_text (word_bytes 24) (put_join (emit (type_part opts p k count e₁) (def_start opts p k count e st))))))
       ≡ emit (def_part opts p k count e) st
   unfolding def_part def_start
-  rest-none count e e₁ st z d = rw (d, z) (no-taken opts (printed opts p k) [] (type_part opts p k 0 (drop_chain 0 e)) st refl)
+  rest_none count e e₁ st z d = rw (d, z) (no_taken opts (printed opts p k) [] (type_part opts p k 0 (drop_chain 0 e)) st refl)
 
   pub rest_some : (count : ℕ) (e e₁ : Expr) (st : State) → (count ≡ 0 → ⊥) → count ≤ chain_length e → e₁ ≡ drop_chain count e →
       put_group (put_join (put_text (word_bytes 26) (put_join (put_text (word_bytes 24) (put_join (emit (type_part opts p k count e₁) (def_start opts p k count e st)))))))
@@ -174,17 +174,17 @@ module _ (opts : PpOptions) (p : Pool) (k : Stack) where
   rest_some zero e e₁ st f l d = absurd (f refl)
   rest_some (suc n) e e₁ st f l d =
       rw d
-      (some-taken opts (printed opts p k) (take (suc n) (scoped k 0 0 e)) (type_part opts p k (suc n) (drop_chain (suc n) e)) st
+      (some_taken opts (printed opts p k) (take (suc n) (scoped k 0 0 e)) (type_part opts p k (suc n) (drop_chain (suc n) e)) st
       (filled (suc n) (scoped k 0 0 e) f (rw (length-scoped k 0 0 e) l)))
 
   pub axiom_rest_lem : (count : ℕ) (e e₁ : Expr) (st : State) → count ≤ chain_length e → e₁ ≡ drop_chain count e →
       put_nest opts.indent (put_group (put_join (put_group (emit (under 0 (chain_part opts p k count count e₁)) (put_join (put_break 1 (axiom_start opts p k count e st)))))))
       ≡ emit (axiom_part opts p k count e) st
   unfolding axiom_part axiom_start join_piece groups_part
-  axiom_rest_lem zero e e₁ st l d = rw d (no-leading opts (printed opts p k) [] (under 0 (chain_part opts p k 0 0 (drop_chain 0 e))) st refl)
+  axiom_rest_lem zero e e₁ st l d = rw d (no_leading opts (printed opts p k) [] (under 0 (chain_part opts p k 0 0 (drop_chain 0 e))) st refl)
   axiom_rest_lem (suc n) e e₁ st l d =
       rw d
-      (some-leading opts (printed opts p k) (take (suc n) (scoped k 0 0 e)) (under 0 (chain_part opts p k (suc n) (suc n) (drop_chain (suc n) e))) st
+      (some_leading opts (printed opts p k) (take (suc n) (scoped k 0 0 e)) (under 0 (chain_part opts p k (suc n) (suc n) (drop_chain (suc n) e))) st
       (filled (suc n) (scoped k 0 0 e) (λ z. omega arith) (rw (length-scoped k 0 0 e) l)))
 
   -- the binders that left, with the code's own numbers
@@ -193,7 +193,7 @@ module _ (opts : PpOptions) (p : Pool) (k : Stack) where
       ≡ def_parts opts p k (expr_at p r) (expr_at p v) st
   unfolding def_parts
   parts_row r v row value count st end =
-      ap₂ (λ (n : ℕ) (x : Expr). put_join (emit (value_part opts p k n x) (put_join (emit (def_part opts p k n (expr_at p r)) st)))) end.is-count end.is-value
+      ap₂ (λ (n : ℕ) (x : Expr). put_join (emit (value_part opts p k n x) (put_join (emit (def_part opts p k n (expr_at p r)) st)))) end.is_count end.is_value
 
 pub positive : (n : ℕ) → (n ≡ 0 → ⊥) → 0 < n
 positive zero f = absurd (f refl)
@@ -251,7 +251,7 @@ module _ (opts : PpOptions) (p : Pool) (k : Stack) (e : Expr) (c : Chained p k 0
   binders_are = ap binders (sym self) ∙ chain_is_scoped p k 0 0 (λ i. i) e c under_self
 
   body_is : chain_body e ≡ rename (place_in k (last_scope 0 0 e)) (chain_body e)
-  body_is = ap chain_body (sym self) ∙ body-is-scoped p k 0 0 (λ i. i) e c under_self
+  body_is = ap chain_body (sym self) ∙ body_is_scoped p k 0 0 (λ i. i) e c under_self
 
   names_are : pushed (binders e) [] ≡ names_of p k
   unfolding names_below
@@ -270,16 +270,16 @@ module _ (opts : PpOptions) (p : Pool) (k : Stack) (e : Expr) (c : Chained p k 0
       (body_is ∙ ap₂ (λ (x : ℕ) (y : Expr). rename (place_in k x) y) (sym s) (sym (after n l).body))
 
   -- the scope after n binders
-  pub after-chained : (n : ℕ) → n ≤ chain_length e → Chained p k n n (drop_chain n e)
-  after-chained n l = rw (zero-add n) at ((after n l).chained c)
+  pub after_chained : (n : ℕ) → n ≤ chain_length e → Chained p k n n (drop_chain n e)
+  after_chained n l = rw (zero-add n) at ((after n l).chained c)
 
-  pub after-scope : (n : ℕ) → n ≤ chain_length e → length (scoped k n n (drop_chain n e)) + n ≡ k.count
-  after-scope n l = chain_length_lem p k n n (drop_chain n e) (after-chained n l)
+  pub after_scope : (n : ℕ) → n ≤ chain_length e → length (scoped k n n (drop_chain n e)) + n ≡ k.count
+  after_scope n l = chain_length_lem p k n n (drop_chain n e) (after_chained n l)
 
   drop-length : (n : ℕ) → n ≤ chain_length e → length (drop n (binders e)) + n ≡ k.count
   drop-length n l =
       let r : scoped k n n (drop_chain n e) ≡ drop n (scoped k 0 0 e) = rw (zero-add n) at (after n l).rest in
-      ap (λ (x : List Binder). length x + n) (ap (drop n) binders_are ∙ sym r) ∙ after-scope n l
+      ap (λ (x : List Binder). length x + n) (ap (drop n) binders_are ∙ sym r) ∙ after_scope n l
 
 up_self : (i : ℕ) → up (λ j. j) i ≡ i
 unfolding up
@@ -298,11 +298,11 @@ place_self p k (suc n) m (app g a) c l f i = absurd (omega arith)
 place_self p k (suc n) m (pi q a s t b) c l f i =
     let z : m + suc n ≡ suc m + n = omega arith in
     let len : length (scoped k (suc m) (suc m) b) + suc m ≡ k.count = chain_length_lem p k (suc m) (suc m) b c.2 in
-    rw z (place_self p k n (suc m) b c.2 (omega arith) (λ j. scope-up k m m (λ x. x) c.0 (omega arith) f j ∙ ap (λ (x : ℕ). x + (k.count - suc m)) (up_self j)) i)
+    rw z (place_self p k n (suc m) b c.2 (omega arith) (λ j. scope_up k m m (λ x. x) c.0 (omega arith) f j ∙ ap (λ (x : ℕ). x + (k.count - suc m)) (up_self j)) i)
 place_self p k (suc n) m (lam q a s t b) c l f i =
     let z : m + suc n ≡ suc m + n = omega arith in
     let len : length (scoped k (suc m) (suc m) b) + suc m ≡ k.count = chain_length_lem p k (suc m) (suc m) b c.2 in
-    rw z (place_self p k n (suc m) b c.2 (omega arith) (λ j. scope-up k m m (λ x. x) c.0 (omega arith) f j ∙ ap (λ (x : ℕ). x + (k.count - suc m)) (up_self j)) i)
+    rw z (place_self p k n (suc m) b c.2 (omega arith) (λ j. scope_up k m m (λ x. x) c.0 (omega arith) f j ∙ ap (λ (x : ℕ). x + (k.count - suc m)) (up_self j)) i)
 place_self p k (suc n) m (letᵉ q a t v b d) c l f i = absurd (omega arith)
 place_self p k (suc n) m (proj a j e) c l f i = absurd (omega arith)
 place_self p k (suc n) m (nat s) c l f i = absurd (omega arith)
@@ -310,8 +310,8 @@ place_self p k (suc n) m (str s) c l f i = absurd (omega arith)
 
 module _ (opts : PpOptions) (p : Pool) (k : Stack) (e : Expr) (c : Chained p k 0 0 e) where
   -- the value, in the scope of the binders taken
-  value-is : (n : ℕ) (v : Expr) → n ≤ chain_length e → lift (length (drop n (binders e))) 0 v ≡ rename (place_in k n) v
-  value-is n v l =
+  value_is : (n : ℕ) (v : Expr) → n ≤ chain_length e → lift (length (drop n (binders e))) 0 v ≡ rename (place_in k n) v
+  value_is n v l =
       let len : length (drop n (binders e)) + n ≡ k.count = drop-length opts p k e c n l in
       ap (lift (length (drop n (binders e))) 0) (sym (rename-same (λ i. i) (λ i. refl) v))
       ∙ lift_adds (length (drop n (binders e))) (λ i. i) v
@@ -325,9 +325,9 @@ module _ (opts : PpOptions) (p : Pool) (k : Stack) (e : Expr) (c : Chained p k 0
       ⊹ value_part opts p k (taken (binders e) v 0).count (taken (binders e) v 0).value
   unfolding main_def head_part def_part type_part value_part in_scope
   def_is kind name levels v =
-      let few : (taken (binders e) v 0).count ≤ chain_length e = omega (arith, taken-few (binders e) v 0, binders-length e) in
+      let few : (taken (binders e) v 0).count ≤ chain_length e = omega (arith, taken_few (binders e) v 0, binders-length e) in
       let n : ℕ = (taken (binders e) v 0).count in
-      rw (names_are opts p k e c, value-is n (taken (binders e) v 0).value few, left_is opts p k e c n few, ap (take n) (binders_are opts p k e c))
+      rw (names_are opts p k e c, value_is n (taken (binders e) v 0).value few, left_is opts p k e c n few, ap (take n) (binders_are opts p k e c))
 
   axiom_is : (kind : ℕ) (name : Name) (levels : List Level) (n : ℕ) → n ≡ run_length true e →
       main_axiom opts kind name levels e ≡ head_part kind name levels ⊹ in_force (binders e) 0 (axiom_part opts p k n e)
@@ -345,8 +345,8 @@ module _ (opts : PpOptions) (p : Pool) (k : Stack) (e : Expr) (c : Chained p k 0
 -- ---- whole declarations
 
 -- a stopped sink stays as it is
-joined-stopped : (d : Marked) (st : State) → eqb (sink_of st).stop 0 ≡ false → put_join (emit d st) ≡ st
-joined-stopped d st s = ap put_join (emit-stopped d st s) ∙ stays_join st s
+joined_stopped : (d : Marked) (st : State) → eqb (sink_of st).stop 0 ≡ false → put_join (emit d st) ≡ st
+joined_stopped d st s = ap put_join (emit_stopped d st s) ∙ stays_join st s
 
 join_emits : (a b : Marked) (st : State) → emit (a ⊹ b) st ≡ put_join (emit b (emit a st))
 unfolding emit
@@ -369,8 +369,8 @@ module _ {bs ns ws : List ℕ} {t : Tables} {r : ℕ} (a : Declared bs ns ws t r
     low : y < E ws
     low = let row = declared_row in omega (arith, row.type)
 
-    names-put : (d : Marked) → emit (head_part (w 0) (name_at p (w 1)) (list_at p (w 2)) ⊹ in_force (binders (expr_at p y)) 0 d) st ≡ put_join (emit d (put_names y n head))
-    names-put d = join_emits _ (in_force (binders (expr_at p y)) 0 d) st ∙ ap put_join (forced p a.pool.ready.sound y n d head low count)
+    names_put : (d : Marked) → emit (head_part (w 0) (name_at p (w 1)) (list_at p (w 2)) ⊹ in_force (binders (expr_at p y)) 0 d) st ≡ put_join (emit d (put_names y n head))
+    names_put d = join_emits _ (in_force (binders (expr_at p y)) 0 d) st ∙ ap put_join (forced p a.pool.ready.sound y n d head low count)
 
     pub def_goes_on : (k : Stack) (v : ℕ) → v ≡ w 4 → InChain bs ns ws t k 0 0 y →
         def_parts opts p k (expr_at p y) (expr_at p v) (put_names y n head) ≡ emit (main_def opts (w 0) (name_at p (w 1)) (list_at p (w 2)) (expr_at p (w 3)) (expr_at p (w 4))) st
@@ -382,7 +382,7 @@ module _ {bs ns ws : List ℕ} {t : Tables} {r : ℕ} (a : Declared bs ns ws t r
         (ap₂ (λ (x z : ℕ). emit (main_def opts (w 0) (name_at p (w 1)) (list_at p (w 2)) (expr_at p x) (expr_at p z)) st) (sym is) (sym z)
         ∙ ap (λ (x : Marked). emit x st) whole
         ∙ join_emits _ (value_part opts p k m.count m.value) st
-        ∙ ap (λ (x : State). put_join (emit (value_part opts p k m.count m.value) x)) (names-put (def_part opts p k m.count (expr_at p y))))
+        ∙ ap (λ (x : State). put_join (emit (value_part opts p k m.count m.value) x)) (names_put (def_part opts p k m.count (expr_at p y))))
 
     pub axiom_goes_on : (k : Stack) (row m : ℕ) → RunEnd p true y row m → InChain bs ns ws t k 0 0 y →
         put_join (emit (axiom_part opts p k m (expr_at p y)) (put_names y n head)) ≡ emit (main_axiom opts (w 0) (name_at p (w 1)) (list_at p (w 2)) (expr_at p (w 3))) st
@@ -390,14 +390,14 @@ module _ {bs ns ws : List ℕ} {t : Tables} {r : ℕ} (a : Declared bs ns ws t r
         sym
         (ap (λ (x : ℕ). emit (main_axiom opts (w 0) (name_at p (w 1)) (list_at p (w 2)) (expr_at p x)) st) (sym is)
         ∙ ap (λ (x : Marked). emit x st) (axiom_is opts p k (expr_at p y) c.chained (w 0) (name_at p (w 1)) (list_at p (w 2)) m end.length)
-        ∙ names-put (axiom_part opts p k m (expr_at p y)))
+        ∙ names_put (axiom_part opts p k m (expr_at p y)))
 
     module _ (stopped : eqb (sink_of (put_names y n head)).stop 0 ≡ false) where
-      names-stop : (d : Marked) → emit (head_part (w 0) (name_at p (w 1)) (list_at p (w 2)) ⊹ in_force (binders (expr_at p y)) 0 d) st ≡ put_names y n head
-      names-stop d = names-put d ∙ joined-stopped d (put_names y n head) stopped
+      names_stop : (d : Marked) → emit (head_part (w 0) (name_at p (w 1)) (list_at p (w 2)) ⊹ in_force (binders (expr_at p y)) 0 d) st ≡ put_names y n head
+      names_stop d = names_put d ∙ joined_stopped d (put_names y n head) stopped
 
       then_stops : (d u : Marked) → emit (head_part (w 0) (name_at p (w 1)) (list_at p (w 2)) ⊹ in_force (binders (expr_at p y)) 0 d ⊹ u) st ≡ put_names y n head
-      then_stops d u = join_emits _ u st ∙ ap (λ (x : State). put_join (emit u x)) (names-stop d) ∙ joined-stopped u (put_names y n head) stopped
+      then_stops d u = join_emits _ u st ∙ ap (λ (x : State). put_join (emit u x)) (names_stop d) ∙ joined_stopped u (put_names y n head) stopped
 
       pub def_stops : put_names y n head ≡ emit (main_def opts (w 0) (name_at p (w 1)) (list_at p (w 2)) (expr_at p (w 3)) (expr_at p (w 4))) st
       unfolding main_def head_part
@@ -405,7 +405,7 @@ module _ {bs ns ws : List ℕ} {t : Tables} {r : ℕ} (a : Declared bs ns ws t r
 
       pub axiom_stops : put_names y n head ≡ emit (main_axiom opts (w 0) (name_at p (w 1)) (list_at p (w 2)) (expr_at p (w 3))) st
       unfolding main_axiom head_part
-      axiom_stops = sym (ap (λ (x : ℕ). emit (main_axiom opts (w 0) (name_at p (w 1)) (list_at p (w 2)) (expr_at p x)) st) (sym is) ∙ names-stop _)
+      axiom_stops = sym (ap (λ (x : ℕ). emit (main_axiom opts (w 0) (name_at p (w 1)) (list_at p (w 2)) (expr_at p x)) st) (sym is) ∙ names_stop _)
 
 -- ---- rows of a chain that starts on the empty stack
 
@@ -414,16 +414,16 @@ module _ {bs ns ws : List ℕ} {t : Tables} {k : Stack} {r : ℕ} (c : InChain b
   q = over bs ns ws
 
   -- the first binders' names are on the stack
-  pub scope-after : (n : ℕ) → n ≤ chain_length (expr_at q r) → n ≤ k.count
-  scope-after n few =
-      let len : length (scoped k n n (drop_chain n (expr_at q r))) + n ≡ k.count = after-scope (indented 0) q k (expr_at q r) c.chained n few in
+  pub scope_after : (n : ℕ) → n ≤ chain_length (expr_at q r) → n ≤ k.count
+  scope_after n few =
+      let len : length (scoped k n n (drop_chain n (expr_at q r))) + n ≡ k.count = after_scope (indented 0) q k (expr_at q r) c.chained n few in
       omega arith
 
   pub asked-within : (n x : ℕ) → n ≤ k.count → x < E ws → Asked bs ns ws t k n x
   asked-within n x within low = record { pool = c.asked.pool; held = c.asked.held; scope = within; row = low }
 
   pub chain_after : (n x : ℕ) → n ≤ chain_length (expr_at q r) → x < E ws → expr_at q x ≡ drop_chain n (expr_at q r) → InChain bs ns ws t k n n x
-  chain_after n x few low tree = record { asked = asked-within n x (scope-after n few) low; chained = rw tree (after-chained (indented 0) q k (expr_at q r) c.chained n few) }
+  chain_after n x few low tree = record { asked = asked-within n x (scope_after n few) low; chained = rw tree (after_chained (indented 0) q k (expr_at q r) c.chained n few) }
 
 pub held_none : (p : Pool) (k : Stack) → Linked k → k.count ≡ 0 → Held p k
 held_none p k l e = record { linked = l; named = λ i h. absurd (omega arith) }
@@ -438,14 +438,14 @@ chain_alone {bs} {ns} {ws} k l r pool row e c =
 
 -- ---- listings
 
-names-none : (p : Pool) (k : Stack) → k.count ≡ 0 → names_of p k ≡ []
+names_none : (p : Pool) (k : Stack) → k.count ≡ 0 → names_of p k ≡ []
 unfolding names_of names_below
-names-none p k e = ap (names_below p k) e
+names_none p k e = ap (names_below p k) e
 
-pub expr-lists : (opts : PpOptions) (p : Pool) (k : Stack) (e : Expr) (st : State) → k.count ≡ 0 → put_group (emit (under 0 (in_scope opts p k 0 e)) st) ≡ emit (expr_doc opts e) st
+pub expr_lists : (opts : PpOptions) (p : Pool) (k : Stack) (e : Expr) (st : State) → k.count ≡ 0 → put_group (emit (under 0 (in_scope opts p k 0 e)) st) ≡ emit (expr_doc opts e) st
 unfolding expr_doc in_scope emit
-expr-lists opts p k e st z =
-    ap₂ (λ (x : NamesInForce) (y : Expr). put_group (emit (under 0 (expr_par opts x y)) st)) (names-none p k z)
+expr_lists opts p k e st z =
+    ap₂ (λ (x : NamesInForce) (y : Expr). put_group (emit (under 0 (expr_par opts x y)) st)) (names_none p k z)
     (rename-same (place_in k 0) (λ i. place_past k i ∙ omega arith) e)
 
 module _ (opts : PpOptions) (p : Pool) (r : ℕ) (st : State) where
@@ -459,18 +459,18 @@ module _ (opts : PpOptions) (p : Pool) (r : ℕ) (st : State) where
   abbrev shown : Bool → Declar
   shown b = cond b (valued (wᵈ 0) (name_at p (wᵈ 1)) (list_at p (wᵈ 2)) (expr_at p (wᵈ 3)) (expr_at p (wᵈ 4))) (typed (wᵈ 0) (name_at p (wᵈ 1)) (list_at p (wᵈ 2)) (expr_at p (wᵈ 3)))
 
-  pub valued-lists : (kind : ℕ) (v : Bool) → kind ≡ wᵈ 0 → v ≡ has_value kind → v ≡ true →
+  pub valued_lists : (kind : ℕ) (v : Bool) → kind ≡ wᵈ 0 → v ≡ has_value kind → v ≡ true →
       put_group (emit (main_def opts (wᵈ 0) (name_at p (wᵈ 1)) (list_at p (wᵈ 2)) (expr_at p (wᵈ 3)) (expr_at p (wᵈ 4))) st) ≡ emit (declar_doc opts (declar_at p r)) st
   unfolding declar_at declar_doc
-  valued-lists kind v ek ev et =
+  valued_lists kind v ek ev et =
       group_emits _ ∙ sym (ap (λ (b : Bool). emit (declar_doc opts (shown b)) st) (ap has_value (sym ek) ∙ sym ev ∙ et))
 
-  pub typed-lists : (kind : ℕ) (v : Bool) → kind ≡ wᵈ 0 → v ≡ has_value kind → v ≡ false →
+  pub typed_lists : (kind : ℕ) (v : Bool) → kind ≡ wᵈ 0 → v ≡ has_value kind → v ≡ false →
       put_group (emit (main_axiom opts (wᵈ 0) (name_at p (wᵈ 1)) (list_at p (wᵈ 2)) (expr_at p (wᵈ 3))) st) ≡ emit (declar_doc opts (declar_at p r)) st
   unfolding declar_at declar_doc
-  typed-lists kind v ek ev ef =
+  typed_lists kind v ek ev ef =
       group_emits _ ∙ sym (ap (λ (b : Bool). emit (declar_doc opts (shown b)) st) (ap has_value (sym ek) ∙ sym ev ∙ ef))
 
 -- a kind that has a value
-pub has-value : (kind k : ℕ) (v : Bool) → kind ≡ k → v ≡ has_value kind → v ≡ true → has_value k ≡ true
-has-value kind k v e f t = ap has_value (sym e) ∙ sym f ∙ t
+pub has_value_lem : (kind k : ℕ) (v : Bool) → kind ≡ k → v ≡ has_value kind → v ≡ true → has_value k ≡ true
+has_value_lem kind k v e f t = ap has_value (sym e) ∙ sym f ∙ t

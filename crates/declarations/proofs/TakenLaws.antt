@@ -49,8 +49,8 @@ module _ (p : Pool) (sound : Sound p) (r : ℕ) (h : r < E p.words) where
           ∙ sym (leave_at (binder_row p sound r h ∙ e))
           ∙ sym (ap (λ (x : Bool). x && can_leave (first_binder (expr_at p r))) e)
 
-  pi-row : (k s : ℕ) (v : Bool) → k ≡ w 0 → s ≡ w 2 → v ≡ eqb k 4 && eqb s 0 → v ≡ true → (eqb (w 0) 4 ≡ true) × (eqb (w 2) 0 ≡ true)
-  pi-row k s v ek es ev et =
+  pi_row : (k s : ℕ) (v : Bool) → k ≡ w 0 → s ≡ w 2 → v ≡ eqb k 4 && eqb s 0 → v ≡ true → (eqb (w 0) 4 ≡ true) × (eqb (w 2) 0 ≡ true)
+  pi_row k s v ek es ev et =
       and_both (eqb (w 0) 4) (eqb (w 2) 0) (ap₂ (λ (x y : ℕ). eqb x 4 && eqb y 0) (sym ek) (sym es) ∙ sym ev ∙ et)
 
   pi_kind : eqb (w 0) 4 ≡ true → binder_kind (w 0) ≡ true
@@ -59,12 +59,12 @@ module _ (p : Pool) (sound : Sound p) (r : ℕ) (h : r < E p.words) where
 
   pub leave_name : (k s n : ℕ) (v : Bool) → k ≡ w 0 → s ≡ w 2 → v ≡ eqb k 4 && eqb s 0 → v ≡ true → n ≡ w 1 → n < N p.names
   leave_name k s n v ek es ev et en =
-      let row = binder_at p sound r h (pi_kind (pi-row k s v ek es ev et).0) in omega (arith, row.name)
+      let row = binder_at p sound r h (pi_kind (pi_row k s v ek es ev et).0) in omega (arith, row.name)
 
   pub leave_yes : (k s n : ℕ) (v a : Bool) → k ≡ w 0 → s ≡ w 2 → n ≡ w 1 → v ≡ eqb k 4 && eqb s 0 → v ≡ true → a ≡ is_anonymous (name_at p n) →
       not a ≡ is_binder (expr_at p r) && can_leave (first_binder (expr_at p r))
   leave_yes k s n v a ek es en ev et ea =
-      let f = pi-row k s v ek es ev et in
+      let f = pi_row k s v ek es ev et in
       let b : binder_kind (w 0) ≡ true = pi_kind f.0 in
       ap not (ea ∙ ap (λ (x : ℕ). is_anonymous (name_at p x)) en)
       ∙ sym (ap (λ (x : Bool). x && can_leave (first_binder (expr_at p r))) (sym (binder_row p sound r h) ∙ b)
@@ -80,16 +80,16 @@ leave_type : (i u : Bool) (a : Name) (s : ℕ) (t v : Expr) (q : ℕ) →
 unfolding can_leave
 leave_type i u a s t v q = refl
 
-take-lam : (x : Binder) (xs : List Binder) (q : ℕ) (a : Name) (s : ℕ) (t b : Expr) (n : ℕ) → can_leave x ≡ true →
+take_lam : (x : Binder) (xs : List Binder) (q : ℕ) (a : Name) (s : ℕ) (t b : Expr) (n : ℕ) → can_leave x ≡ true →
     taken (x ∷ xs) (mk_binder false q a s t b) n ≡ taken xs b (suc n)
 unfolding taken mk_binder
-take-lam x xs q a s t b n e = ap (λ (y : Bool). cond y (taken xs b (suc n)) (record { count = n; value = lam q a s t b })) e
+take_lam x xs q a s t b n e = ap (λ (y : Bool). cond y (taken xs b (suc n)) (record { count = n; value = lam q a s t b })) e
 
 take_step : (i : Bool) (q : ℕ) (a : Name) (s : ℕ) (t b : Expr) (q' : ℕ) (a' : Name) (s' : ℕ) (t' b' : Expr) (n : ℕ) → can_leave (first_binder (mk_binder i q a s t b)) ≡ true →
     taken (binders (mk_binder i q a s t b)) (mk_binder false q' a' s' t' b') n ≡ taken (binders b) b' (suc n)
 take_step i q a s t b q' a' s' t' b' n e =
     ap (λ (l : List Binder). taken l (mk_binder false q' a' s' t' b') n) (binders_made i q a s t b)
-    ∙ take-lam _ (binders b) q' a' s' t' b' n
+    ∙ take_lam _ (binders b) q' a' s' t' b' n
     (leave_type i (occurs 0 b) a s (lift (suc (length (binders b))) 0 t) t q ∙ ap can_leave (sym (first_made i q a s t b)) ∙ e)
 
 take_none : (x : Binder) (xs : List Binder) (v : Expr) (n : ℕ) → can_leave x && (is_binder v && in_run false (first_binder v)) ≡ false →
@@ -106,39 +106,39 @@ take_none x xs (proj a i v) n e = refl
 take_none x xs (nat s) n e = refl
 take_none x xs (str s) n e = refl
 
-take-stops : (e v : Expr) (n : ℕ) → can_take e v ≡ false → taken (binders e) v n ≡ record { count = n; value = v }
+take_stops : (e v : Expr) (n : ℕ) → can_take e v ≡ false → taken (binders e) v n ≡ record { count = n; value = v }
 unfolding can_take binders is_binder first_binder taken can_leave
-take-stops (var i) v n z = refl
-take-stops (sort l) v n z = refl
-take-stops (const a ls) v n z = refl
-take-stops (app f a) v n z = refl
-take-stops (pi q a s t b) v n z =
+take_stops (var i) v n z = refl
+take_stops (sort l) v n z = refl
+take_stops (const a ls) v n z = refl
+take_stops (app f a) v n z = refl
+take_stops (pi q a s t b) v n z =
     take_none (record { is_pi = true; used = occurs 0 b; name = a; style = s; type = lift (suc (length (binders b))) 0 t; place = q }) (binders b) v n z
-take-stops (lam q a s t b) v n z =
+take_stops (lam q a s t b) v n z =
     take_none (record { is_pi = false; used = occurs 0 b; name = a; style = s; type = lift (suc (length (binders b))) 0 t; place = q }) (binders b) v n z
-take-stops (letᵉ q a t u b d) v n z = refl
-take-stops (proj a i e) v n z = refl
-take-stops (nat s) v n z = refl
-take-stops (str s) v n z = refl
+take_stops (letᵉ q a t u b d) v n z = refl
+take_stops (proj a i e) v n z = refl
+take_stops (nat s) v n z = refl
+take_stops (str s) v n z = refl
 
 -- no more leave than there are
-pub taken-few : (xs : List Binder) (v : Expr) (n : ℕ) → (taken xs v n).count ≤ n + length xs
+pub taken_few : (xs : List Binder) (v : Expr) (n : ℕ) → (taken xs v n).count ≤ n + length xs
 unfolding taken
-taken-few [] v n = omega arith
-taken-few (x ∷ xs) (var i) n = omega arith
-taken-few (x ∷ xs) (sort l) n = omega arith
-taken-few (x ∷ xs) (const a ls) n = omega arith
-taken-few (x ∷ xs) (app f a) n = omega arith
-taken-few (x ∷ xs) (pi q a s t b) n = omega arith
-taken-few (x ∷ xs) (lam q a s t b) n = by (can_leave x) (taken-few xs b (suc n))
+taken_few [] v n = omega arith
+taken_few (x ∷ xs) (var i) n = omega arith
+taken_few (x ∷ xs) (sort l) n = omega arith
+taken_few (x ∷ xs) (const a ls) n = omega arith
+taken_few (x ∷ xs) (app f a) n = omega arith
+taken_few (x ∷ xs) (pi q a s t b) n = omega arith
+taken_few (x ∷ xs) (lam q a s t b) n = by (can_leave x) (taken_few xs b (suc n))
   where
     by : (y : Bool) → (taken xs b (suc n)).count ≤ suc n + length xs → (cond y (taken xs b (suc n)) (record { count = n; value = lam q a s t b })).count ≤ n + suc (length xs)
     by true l = omega arith
     by false l = omega arith
-taken-few (x ∷ xs) (letᵉ q a t v b d) n = omega arith
-taken-few (x ∷ xs) (proj a i v) n = omega arith
-taken-few (x ∷ xs) (nat s) n = omega arith
-taken-few (x ∷ xs) (str s) n = omega arith
+taken_few (x ∷ xs) (letᵉ q a t v b d) n = omega arith
+taken_few (x ∷ xs) (proj a i v) n = omega arith
+taken_few (x ∷ xs) (nat s) n = omega arith
+taken_few (x ∷ xs) (str s) n = omega arith
 
 -- ---- the loop
 
@@ -222,10 +222,10 @@ module _ (p : Pool) (sound : Sound p) (r v at opened n : ℕ) (i : Taking p r v 
   pub taking_done : t ≡ false → TakenEnd p r v at opened n
   taking_done e =
       let end : taken (binders (expr_at p r)) (expr_at p v) 0 ≡ record { count = n; value = expr_at p opened } =
-      sym i.same ∙ take-stops (expr_at p at) (expr_at p opened) n (sym is ∙ e) in
+      sym i.same ∙ take_stops (expr_at p at) (expr_at p opened) n (sym is ∙ e) in
       record {
-        is-count = sym (ap (λ (x : Taken). x.count) end);
-        is-value = sym (ap (λ (x : Taken). x.value) end);
+        is_count = sym (ap (λ (x : Taken). x.count) end);
+        is_value = sym (ap (λ (x : Taken). x.value) end);
         tree = i.tree;
         few = omega (arith, i.count);
         row_low = i.row;

@@ -29,8 +29,8 @@ can_take e v = (is_binder e && can_leave (first_binder e)) && (is_binder v && in
 
 -- the binders that leave the type at row r, where row v is the value: what is left of the type and of the value, and how many
 pub record TakenEnd (p : Pool) (r v row value count : ℕ) : Type 0 where
-  pub is-count : count ≡ (taken (binders (expr_at p r)) (expr_at p v) 0).count
-  pub is-value : expr_at p value ≡ (taken (binders (expr_at p r)) (expr_at p v) 0).value
+  pub is_count : count ≡ (taken (binders (expr_at p r)) (expr_at p v) 0).count
+  pub is_value : expr_at p value ≡ (taken (binders (expr_at p r)) (expr_at p v) 0).value
   pub tree : expr_at p row ≡ drop_chain count (expr_at p r)
   pub few : count ≤ chain_length (expr_at p r)
   pub row_low : row < E p.words

@@ -47,17 +47,17 @@ module _ (bs ns ws : List ℕ) (t : Tables) (ready : Ready bs ns ws t) (a b : �
     pub walk_tells : (limited : Bool) (kept : List ℕ) (v x y : ℕ) → Walked p d 0 (a + 1) (b + 1) limited kept v x y → Tells (first_pair p d a b) v x y
     walk_tells limited kept v x y w = subst (λ (k : Comparison). Tells k v x y) rows_told (w.told (suc a) (omega arith))
 
-    is-equal : is_equal (first_pair p d a b) ≡ trees_same p d 0 a b
+    is_equal_lem : is_equal (first_pair p d a b) ≡ trees_same p d 0 a b
     unfolding first_pair
-    is-equal = equal_trees bs ns ws t ready (suc a) d 0 a b ha hb (omega arith)
+    is_equal_lem = equal_trees bs ns ws t ready (suc a) d 0 a b ha hb (omega arith)
 
     pub sweep_equal : (v : ℕ) → Told (trees_same p d 0 a b) v → v ≡ 1 → Compares (first_pair p d a b) d 1 0 0
     sweep_equal v s e =
-        record { no = λ z. absurd (omega arith); yes = λ z. equal_is _ (is-equal ∙ s.yes e); apart = λ m n. absurd (n refl) }
+        record { no = λ z. absurd (omega arith); yes = λ z. equal_is _ (is_equal_lem ∙ s.yes e); apart = λ m n. absurd (n refl) }
 
     differs : trees_same p d 0 a b ≡ false → first_pair p d a b ≡ equal → ⊥
     unfolding is_equal
-    differs f e = true-false (sym (ap is_equal e) ∙ is-equal ∙ f)
+    differs f e = true-false (sym (ap is_equal e) ∙ is_equal_lem ∙ f)
 
     pub sweep_differs : (v : ℕ) → Told (trees_same p d 0 a b) v → v ≡ 0 → (d ≡ 0 → ⊥) → Compares (first_pair p d a b) d 2 0 0
     sweep_differs v s e n =
@@ -71,8 +71,8 @@ module _ (bs ns ws : List ℕ) (t : Tables) (ready : Ready bs ns ws t) (a b : �
     compare_is v x y c = by (eqb v 1) (eqb v 0) refl refl
       where
         by : (f g : Bool) → eqb v 1 ≡ f → eqb v 0 ≡ g → eqb v 1 ≡ trees_same p d 0 a b
-        by true g e r = e ∙ sym (ap is_equal (c.yes (eqb-true v 1 e))) ∙ is-equal
-        by false true e r = e ∙ sym (ap is_equal (c.no (eqb-true v 0 r))) ∙ is-equal
+        by true g e r = e ∙ sym (ap is_equal (c.yes (eqb-true v 1 e))) ∙ is_equal_lem
+        by false true e r = e ∙ sym (ap is_equal (c.no (eqb-true v 0 r))) ∙ is_equal_lem
         by false false e r =
             e ∙ sym (Rattle.basics.proofs.Booleans.not_so (trees_same p d 0 a b)
-            (λ y. (c.apart (eqb-false v 0 r) (eqb-false v 1 e)).0 (equal_is _ (is-equal ∙ y))))
+            (λ y. (c.apart (eqb-false v 0 r) (eqb-false v 1 e)).0 (equal_is _ (is_equal_lem ∙ y))))

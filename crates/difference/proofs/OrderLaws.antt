@@ -15,14 +15,14 @@ use Rattle.pool.specs.Areas.{over}
 use Rattle.pool.specs.Ready.{Ready}
 use Rattle.pool.specs.Tree.{shape, lift}
 use Rattle.pool.specs.Unfold.{expr_at}
-use Rattle.pool.proofs.TreeLaws.{lift-none, lift_closed}
+use Rattle.pool.proofs.TreeLaws.{lift_none, lift_closed}
 use Rattle.pool.proofs.ExprUnfolds.{kind_small, loose-word}
 use Rattle.occurrence.specs.Parts.{first_part, second_part, body_part}
 use Rattle.occurrence.proofs.PartLaws.{ten, first_lower, second_lower, body_lower}
 use Rattle.compare.specs.Equal.{trees_same, same_at, fields_same, parts_same}
 use Rattle.compare.proofs.EqualLaws.{by_kind, other_labels}
 use Rattle.equality.specs.Sweep.{tree_at}
-use Rattle.equality.proofs.SweepLaws.{same-is, is_same}
+use Rattle.equality.proofs.SweepLaws.{same_is, is_same}
 use Rattle.difference.specs.Order.{Comparison, equal, differ, ◌and_then◌, fields_equal, children, first_to}
 use Rattle.difference.specs.Walks.{is_plain, first_at, parts_at}
 
@@ -37,10 +37,10 @@ unfolding is_equal
 equal_is equal e = refl
 equal_is (differ a b) e = false-true e
 
-equal-both : (k l : Comparison) → is_equal (k and_then l) ≡ is_equal k && is_equal l
+equal_both : (k l : Comparison) → is_equal (k and_then l) ≡ is_equal k && is_equal l
 unfolding is_equal ◌and_then◌
-equal-both equal l = refl
-equal-both (differ a b) l = refl
+equal_both equal l = refl
+equal_both (differ a b) l = refl
 
 turned : (x y z : Bool) → x && (y && z) ≡ z && (y && x)
 turned true true true = refl
@@ -142,7 +142,7 @@ module _ (bs ns ws : List ℕ) (t : Tables) (ready : Ready bs ns ws t) where
           let body = equal_parts (suc c) a b ha hb h (body_part ws a kind) (body_part ws b kind) (body_lower pool ready.sound a ha) lower.0 in
           let second = equal_parts c a b ha hb h (second_part ws a kind) (second_part ws b kind) (second_lower pool ready.sound a ha) lower.1 in
           let first = equal_parts c a b ha hb h (first_part ws a kind) (first_part ws b kind) (first_lower pool ready.sound a ha) lower.2 in
-          equal-both _ _ ∙ ap (λ (v : Bool). is_equal (first_at n pool d (suc c) (body_part ws a kind) (body_part ws b kind)) && v) (equal-both _ _)
+          equal_both _ _ ∙ ap (λ (v : Bool). is_equal (first_at n pool d (suc c) (body_part ws a kind) (body_part ws b kind)) && v) (equal_both _ _)
           ∙ rw (body, second, first)
           (turned (same_at pool d (suc c) (body_part ws a kind) (body_part ws b kind)) (same_at pool d c (second_part ws a kind) (second_part ws b kind))
           (same_at pool d c (first_part ws a kind) (first_part ws b kind)))
@@ -178,7 +178,7 @@ module _ (bs ns ws : List ℕ) (t : Tables) (ready : Ready bs ns ws t) where
   plain-lift d c a h e = by (eqb d 0) refl
     where
       by : (v : Bool) → eqb d 0 ≡ v → lift d c (expr_at pool a) ≡ expr_at pool a
-      by true q = ap (λ (i : ℕ). lift i c (expr_at pool a)) (eqb-true d 0 q) ∙ lift-none c (expr_at pool a)
+      by true q = ap (λ (i : ℕ). lift i c (expr_at pool a)) (eqb-true d 0 q) ∙ lift_none c (expr_at pool a)
       by false q =
           let l : leb (expr_word ws a 7) c ≡ true = ap (λ (v : Bool). v || leb (expr_word ws a 7) c) (sym q) ∙ e in
           lift_closed d c (expr_at pool a) (subst (λ (i : ℕ). i ≤ c) (loose-word pool ready.sound a h) (leb-true (expr_word ws a 7) c l))
@@ -191,4 +191,4 @@ module _ (bs ns ws : List ℕ) (t : Tables) (ready : Ready bs ns ws t) where
     pub equal_known : (n : ℕ) → a < n → first_to n pool d c a b ≡ equal → tree_at pool a ≡ tree_at pool b
     unfolding is_equal
     equal_known n h e =
-        sym (ap shape (plain-lift d c a ha plain)) ∙ same-is pool d c a b (sym (equal_trees n d c a b ha hb h) ∙ ap is_equal e)
+        sym (ap shape (plain-lift d c a ha plain)) ∙ same_is pool d c a b (sym (equal_trees n d c a b ha hb h) ∙ ap is_equal e)

@@ -113,8 +113,8 @@ module _ (bs ns ws : List ℕ) (t : Tables) (kept : List ℕ) (d x y c : ℕ) (l
   pub walked_alone : (x ≡ 0 → ⊥) → y ≡ 0 → Walks kept 0 0 0
   walked_alone h e = record { told = λ n g. alone n x y h e; true_still = s.true_so_far; sure = λ z. omega arith }
 
-  pub walked-out : (v w : Bool) → v ≡ limited && w → v ≡ true → Walks kept 2 0 0
-  walked-out v w e y =
+  pub walked_out : (v w : Bool) → v ≡ limited && w → v ≡ true → Walks kept 2 0 0
+  walked_out v w e y =
       record {
         told = λ n g. record { no = λ z. absurd (omega arith); yes = λ z. absurd (omega arith) };
         true_still = s.true_so_far;
@@ -175,14 +175,14 @@ module _ (bs ns ws : List ℕ) (t : Tables) (kept : List ℕ) (d x y c : ℕ) (l
               bodies : (n : ℕ) → first_at n p d (suc c) (body_part ws (x - 1) kind) (body_part ws (y - 1) kind) ≡ first_at n p d (c + 1) x₁ y₁
               bodies n = rw (add-one c, e₁, f₁)
 
-              body-told : (v₁ ≡ 1 → ⊥) → (n : ℕ) → x ≤ n → Tells (first_at n p d c x y) v₁ a₁ b₁
+              body_told : (v₁ ≡ 1 → ⊥) → (n : ℕ) → x ≤ n → Tells (first_at n p d c x y) v₁ a₁ b₁
               unfolding parts_at ◌and_then◌
-              body-told m zero g = absurd (nx (omega arith))
-              body-told m (suc n) g =
+              body_told m zero g = absurd (nx (omega arith))
+              body_told m (suc n) g =
                   record { no = λ z. whole n ∙ rw (bodies n, (w₁.told n (omega (arith, lower₁))).no z); yes = λ z. absurd (m z) }
 
-              pub walked-body : (v₁ ≡ 1 → ⊥) → Walks l₁ v₁ a₁ b₁
-              walked-body m = record { told = body-told m; true_still = w₁.true_still; sure = w₁.sure }
+              pub walked_body : (v₁ ≡ 1 → ⊥) → Walks l₁ v₁ a₁ b₁
+              walked_body m = record { told = body_told m; true_still = w₁.true_still; sure = w₁.sure }
 
               module _ (o₁ : v₁ ≡ 1) (x₂ y₂ : ℕ) (e₂ : x₂ ≡ second_part ws (x - 1) kind) (f₂ : y₂ ≡ second_part ws (y - 1) kind) where
                 lower₂ : x₂ ≤ x - 1
@@ -197,20 +197,20 @@ module _ (bs ns ws : List ℕ) (t : Tables) (kept : List ℕ) (d x y c : ℕ) (l
                   seconds : (n : ℕ) → first_at n p d c (second_part ws (x - 1) kind) (second_part ws (y - 1) kind) ≡ first_at n p d c x₂ y₂
                   seconds n = ap₂ (first_at n p d c) (sym e₂) (sym f₂)
 
-                  body-equal : (n : ℕ) → x ≤ suc n → first_at n p d (c + 1) x₁ y₁ ≡ equal
-                  body-equal n g = (w₁.told n (omega (arith, lower₁))).yes o₁
+                  body_equal : (n : ℕ) → x ≤ suc n → first_at n p d (c + 1) x₁ y₁ ≡ equal
+                  body_equal n g = (w₁.told n (omega (arith, lower₁))).yes o₁
 
-                  second-told : (v₂ ≡ 1 → ⊥) → (n : ℕ) → x ≤ n → Tells (first_at n p d c x y) v₂ a₂ b₂
+                  second_told : (v₂ ≡ 1 → ⊥) → (n : ℕ) → x ≤ n → Tells (first_at n p d c x y) v₂ a₂ b₂
                   unfolding parts_at ◌and_then◌
-                  second-told m zero g = absurd (nx (omega arith))
-                  second-told m (suc n) g =
+                  second_told m zero g = absurd (nx (omega arith))
+                  second_told m (suc n) g =
                       record {
-                        no = λ z. whole n ∙ rw (bodies n, body-equal n g, seconds n, (w₂.told n (omega (arith, lower₂))).no z);
+                        no = λ z. whole n ∙ rw (bodies n, body_equal n g, seconds n, (w₂.told n (omega (arith, lower₂))).no z);
                         yes = λ z. absurd (m z);
                       }
 
-                  pub walked-second : (v₂ ≡ 1 → ⊥) → Walks l₂ v₂ a₂ b₂
-                  walked-second m = record { told = second-told m; true_still = w₂.true_still; sure = w₂.sure }
+                  pub walked_second : (v₂ ≡ 1 → ⊥) → Walks l₂ v₂ a₂ b₂
+                  walked_second m = record { told = second_told m; true_still = w₂.true_still; sure = w₂.sure }
 
                   module _ (o₂ : v₂ ≡ 1) (x₃ y₃ : ℕ) (e₃ : x₃ ≡ first_part ws (x - 1) kind) (f₃ : y₃ ≡ first_part ws (y - 1) kind) where
                     lower₃ : x₃ ≤ x - 1
@@ -225,26 +225,26 @@ module _ (bs ns ws : List ℕ) (t : Tables) (kept : List ℕ) (d x y c : ℕ) (l
                       firsts : (n : ℕ) → first_at n p d c (first_part ws (x - 1) kind) (first_part ws (y - 1) kind) ≡ first_at n p d c x₃ y₃
                       firsts n = ap₂ (first_at n p d c) (sym e₃) (sym f₃)
 
-                      second-equal : (n : ℕ) → x ≤ suc n → first_at n p d c x₂ y₂ ≡ equal
-                      second-equal n g = (w₂.told n (omega (arith, lower₂))).yes o₂
+                      second_equal : (n : ℕ) → x ≤ suc n → first_at n p d c x₂ y₂ ≡ equal
+                      second_equal n g = (w₂.told n (omega (arith, lower₂))).yes o₂
 
-                      first-told : (n : ℕ) → x ≤ n → Tells (first_at n p d c x y) v₃ a₃ b₃
+                      first_told : (n : ℕ) → x ≤ n → Tells (first_at n p d c x y) v₃ a₃ b₃
                       unfolding parts_at ◌and_then◌
-                      first-told zero g = absurd (nx (omega arith))
-                      first-told (suc n) g =
+                      first_told zero g = absurd (nx (omega arith))
+                      first_told (suc n) g =
                           record {
-                            no = λ z. whole n ∙ rw (bodies n, body-equal n g, seconds n, second-equal n g, firsts n, (w₃.told n (omega (arith, lower₃))).no z);
-                            yes = λ z. whole n ∙ rw (bodies n, body-equal n g, seconds n, second-equal n g, firsts n, (w₃.told n (omega (arith, lower₃))).yes z);
+                            no = λ z. whole n ∙ rw (bodies n, body_equal n g, seconds n, second_equal n g, firsts n, (w₃.told n (omega (arith, lower₃))).no z);
+                            yes = λ z. whole n ∙ rw (bodies n, body_equal n g, seconds n, second_equal n g, firsts n, (w₃.told n (omega (arith, lower₃))).yes z);
                           }
 
-                      pub walked-first : (l₄ : List ℕ) → KeepsIf ws l₃ l₄ (eqb v₃ 1) d c (x - 1) (y - 1) → Walks l₄ v₃ a₃ b₃
-                      walked-first l₄ k =
+                      pub walked_first : (l₄ : List ℕ) → KeepsIf ws l₃ l₄ (eqb v₃ 1) d c (x - 1) (y - 1) → Walks l₄ v₃ a₃ b₃
+                      walked_first l₄ k =
                           record {
-                            told = first-told;
+                            told = first_told;
                             true_still = k.keeps (tree_at p) w₃.true_still
                                 (λ e.
                                 let h = and_both (eqb v₃ 1) (is_plain ws d c (x - 1)) e in
                                 equal_known bs ns ws t s.ready d c (x - 1) (y - 1) rows_there.0 rows_there.1 h.1 x (omega (arith, nx))
-                                (sym (at_both x p d c x y nx ny) ∙ (first-told x (omega arith)).yes (eqb-true v₃ 1 h.0)));
+                                (sym (at_both x p d c x y nx ny) ∙ (first_told x (omega arith)).yes (eqb-true v₃ 1 h.0)));
                             sure = w₃.sure;
                           }

@@ -67,17 +67,17 @@ store_end l at bs i h = rw (drop_of_length-le bs h)
 abbrev pub further : Sink → ℕ → Sink
 further s n = record { rows = s.rows; text = s.text + n; stop = s.stop; place = s.place }
 
-bytes-going : (bs rows text : List ℕ) (s : Sink) → s.stop ≡ 0 → s.text + length bs ≤ 65536 → s.text + length bs ≤ length text
+bytes_going : (bs rows text : List ℕ) (s : Sink) → s.stop ≡ 0 → s.text + length bs ≤ 65536 → s.text + length bs ≤ length text
     → put_bytes bs (state rows text s) ≡ state rows (sets text s.text bs) (further s (length bs))
 unfolding put_bytes put_byte
-bytes-going [] rows text s stop few fits = rw add-zero
-bytes-going (b ∷ bs) rows text s stop few fits =
+bytes_going [] rows text s stop few fits = rw add-zero
+bytes_going (b ∷ bs) rows text s stop few fits =
     let small : s.text < 65536 = omega arith in
     let inside : s.text < length text = omega arith in
     let one : s.text + 1 ≡ suc s.text = omega arith in
     let more : s.text + 1 + length bs ≡ s.text + suc (length bs) = omega arith in
     rw (eq-eqb _ _ stop, lt-ltb _ _ small, lt-ltb _ _ inside)
-    (bytes-going bs rows (set text s.text b) (further s 1) stop (omega arith) (rw length-set (omega arith))
+    (bytes_going bs rows (set text s.text b) (further s 1) stop (omega arith) (rw length-set (omega arith))
     ∙ ap (λ (n : ℕ). state rows (sets (set text s.text b) n bs) (record { rows = s.rows; text = s.text + 1 + length bs; stop = s.stop; place = s.place })) one
     ∙ ap (λ (n : ℕ). state rows (sets (set text s.text b) (suc s.text) bs) (record { rows = s.rows; text = n; stop = s.stop; place = s.place })) more)
 
@@ -102,7 +102,7 @@ unfolding put_bytes
 bytes_fit [] rows text s h = rw add-zero
 bytes_fit (b ∷ bs) rows text s h =
     let w = within s (length text) (length bs) h in
-    bytes-going (b ∷ bs) rows text s w.0 w.1 w.2
+    bytes_going (b ∷ bs) rows text s w.0 w.1 w.2
 
 -- a text may be written in pieces
 pub bytes-append : (front bs : List ℕ) (st : State) → put_bytes (front ++ bs) st ≡ put_bytes bs (put_bytes front st)
@@ -110,18 +110,18 @@ unfolding put_bytes
 bytes-append [] bs st = refl
 bytes-append (a ∷ front) bs st = bytes-append front bs (put_byte a st)
 
-pub text-row : (st : State) (from size a b : ℕ) → size ≡ (sink_of st).text - from → a ≡ from % 2 ^ 32 → b ≡ size % 2 ^ 32
+pub text_row : (st : State) (from size a b : ℕ) → size ≡ (sink_of st).text - from → a ≡ from % 2 ^ 32 → b ≡ size % 2 ^ 32
     → put_row 0 a b (record { count = 1; flat = size; first = size; has = 0 }) st ≡ end_text from st
 unfolding end_text
-text-row st from size a b e p q = rw (p, q, e)
+text_row st from size a b e p q = rw (p, q, e)
 
 -- ---- a row
 
 -- seven words that are stored one by one
-pub words-over : (l : List ℕ) (i a b c d e f g : ℕ) → i + 7 ≤ length l
+pub words_over : (l : List ℕ) (i a b c d e f g : ℕ) → i + 7 ≤ length l
     → set (set (set (set (set (set (set l i a) (i + 1) b) (i + 2) c) (i + 3) d) (i + 4) e) (i + 5) f) (i + 6) g
     ≡ over i (a ∷ b ∷ c ∷ d ∷ e ∷ f ∷ g ∷ []) l
-words-over l i a b c d e f g h = as_sets ∙ sets-eq (a ∷ b ∷ c ∷ d ∷ e ∷ f ∷ g ∷ []) l i h
+words_over l i a b c d e f g h = as_sets ∙ sets-eq (a ∷ b ∷ c ∷ d ∷ e ∷ f ∷ g ∷ []) l i h
   where
     as_sets : set (set (set (set (set (set (set l i a) (i + 1) b) (i + 2) c) (i + 3) d) (i + 4) e) (i + 5) f) (i + 6) g
         ≡ sets l i (a ∷ b ∷ c ∷ d ∷ e ∷ f ∷ g ∷ [])
@@ -137,11 +137,11 @@ module _ (rows text : List ℕ) (s : Sink) (kind a b : ℕ) (m : Measures) (stop
   row_put = rw (eq-eqb _ _ stop, lt-ltb _ _ few, le-leb _ _ fits)
 
   -- as the code stores it
-  pub row-stored : (n f d h : ℕ) → n ≡ m.count % 2 ^ 32 → f ≡ m.flat % 2 ^ 32 → d ≡ m.first % 2 ^ 32 → h ≡ m.has % 2 ^ 32
+  pub row_stored : (n f d h : ℕ) → n ≡ m.count % 2 ^ 32 → f ≡ m.flat % 2 ^ 32 → d ≡ m.first % 2 ^ 32 → h ≡ m.has % 2 ^ 32
       → state
       (set (set (set (set (set (set (set rows (s.rows * 7) kind) (s.rows * 7 + 1) a) (s.rows * 7 + 2) b) (s.rows * 7 + 3) n) (s.rows * 7 + 4) f) (s.rows * 7 + 5) d) (s.rows * 7 + 6) h)
       text next
       ≡ put_row kind a b m (state rows text s)
-  row-stored n f d h e1 e2 e3 e4 =
-      ap (λ (r : List ℕ). state r text next) (words-over rows (s.rows * 7) kind a b n f d h fits ∙ rw (e1, e2, e3, e4))
+  row_stored n f d h e1 e2 e3 e4 =
+      ap (λ (r : List ℕ). state r text next) (words_over rows (s.rows * 7) kind a b n f d h fits ∙ rw (e1, e2, e3, e4))
       ∙ sym row_put

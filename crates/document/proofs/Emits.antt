@@ -13,7 +13,7 @@ use Rattle.document.specs.Walk.{Marked, textᵐ, joinᵐ, breakᵐ, nestᵐ, gro
 use Rattle.document.specs.Walk.{text_events, events, walk}
 use Rattle.document.specs.Sink.{State, row_words, put_row, put_bytes, end_text, put_text, put_break, put_join, put_wrapped, put_names, emit, cleared}
 use Rattle.document.specs.Sink.State.{state}
-use Rattle.document.proofs.ReadBack.{stored-length, some-row, own, own_words, Words}
+use Rattle.document.proofs.ReadBack.{stored-length, some_row, own, own_words, Words}
 use Rattle.document.proofs.Sizes.{words_fit}
 use Rattle.document.proofs.Steps.{Stopped, Stays, stays_emit, stays_join, stays_wrapped, stays_after, steps-append, sink_at, At, areas, Grown, Agree, agree_words}
 use Rattle.document.proofs.Steps.{then, row_agrees, names_agree, text_words, text_agrees}
@@ -54,7 +54,7 @@ module _ (R T : ℕ) (pre rest tpre trest : List ℕ) (r t : ℕ) (at : At R T p
       → Agree R T pre rest tpre trest (row_words kind a 0 (wrapped (measures d))) [] (step R T (going r t) row) (put_wrapped kind a (areas pre rest tpre trest r t))
   unfolding put_wrapped
   wrapped_agrees p front d u is l n kind a =
-      let x = some-row d in
+      let x = some_row d in
       subst (λ (m : Measures). Agree R T pre rest tpre trest (row_words kind a 0 (wrapped (measures d))) [] (step R T (going r t) row) (put_row kind a 0 (wrapped m) (areas pre rest tpre trest r t)))
       (sym (written (pre ++ rest) d u p (r - 1) front rest (ap (λ (z : List ℕ). z ++ rest) is) l (omega arith)))
       (row_agrees R T pre rest tpre trest r t at kind a 0 (wrapped (measures d)))
@@ -64,8 +64,8 @@ module _ (R T : ℕ) (pre rest tpre trest : List ℕ) (r t : ℕ) (at : At R T p
       → Agree R T pre rest tpre trest (row_words 1 0 0 (measures (join d e))) [] (step R T (going r t) row) (put_join (areas pre rest tpre trest r t))
   unfolding put_join row_count flat_size first_break has_break
   join_agrees p front d e u v is l n =
-      let x = some-row d in
-      let y = some-row e in
+      let x = some_row d in
+      let y = some_row e in
       let rows : List ℕ = pre ++ rest in
       let lf = length-append front (stored u d) in
       let ls = stored-length u d in
@@ -161,9 +161,9 @@ join_emits R T pre rest tpre trest r t at es fs d e st f fine stays k h =
     (k pre' rest' tpre' trest' r' t' at'))))
     h))
 
-text-fits : (t : ℕ) (s : List ℕ) → t + length s ≤ 65536 → text_words t (length s) ≡ row_of 0 t (length s) (text s)
+text_fits : (t : ℕ) (s : List ℕ) → t + length s ≤ 65536 → text_words t (length s) ≡ row_of 0 t (length s) (text s)
 unfolding row_count flat_size first_break has_break text_bytes Fine
-text-fits t s h =
+text_fits t s h =
     let p : t % 2 ^ 32 ≡ t = mod-eq_of_lt (omega arith) in
     let q : length s % 2 ^ 32 ≡ length s = mod-eq_of_lt (omega arith) in
     rw (p, q)
@@ -180,7 +180,7 @@ emit_agrees R T (textᵐ s) fine pre rest tpre trest r t at =
     let a = at.text_at in
     let b = at'.text_at in
     let c = at'.small in
-    text-fits t s (omega arith))
+    text_fits t s (omega arith))
     (text_agrees R T s t (length s) pre rest tpre trest r t at refl)
 emit_agrees R T (joinᵐ a b) fine pre rest tpre trest r t at =
     join_emits R T pre rest tpre trest r t at (events a) (events b) (unmarked a) (unmarked b) (emit a (areas pre rest tpre trest r t)) (emit b) fine (stays_emit b)
@@ -225,7 +225,7 @@ pub record Emitted (R T : ℕ) (d : Doc) (r t : ℕ) (st : State) : Type 0 where
   pub few : row_count d ≤ 16384
   pub small : length (text_bytes d) ≤ 65536
   pub rows_fit : row_count d * 7 ≤ R
-  pub text-fits : length (text_bytes d) ≤ T
+  pub text_fits : length (text_bytes d) ≤ T
   pub is : st ≡ state (stored 0 d ++ replicate (R - row_count d * 7) 0) (text_bytes d ++ replicate (T - length (text_bytes d)) 0) (sink_at (row_count d) (length (text_bytes d)))
 
 cleared_agrees : (R T : ℕ) (m : Marked) → Fine (unmarked m) → Agree R T [] (replicate {A = ℕ} R 0) [] (replicate {A = ℕ} T 0) (stored 0 (unmarked m))
@@ -235,7 +235,7 @@ cleared_agrees R T m fine =
     let l = length-replicate {A = ℕ} R 0 in
     let k = length-replicate {A = ℕ} T 0 in
     emit_agrees R T m fine [] (replicate {A = ℕ} R 0) [] (replicate {A = ℕ} T 0) 0 0
-    (record { rows_at = refl; text_at = refl; rows_long = omega arith; text-long = omega arith; few = omega arith; small = omega arith })
+    (record { rows_at = refl; text_at = refl; rows_long = omega arith; text_long = omega arith; few = omega arith; small = omega arith })
 
 pub emit_of_going_walk : (R T : ℕ) (m : Marked) → Fine (unmarked m) → (r t : ℕ) → walk R T m ≡ going r t → Emitted R T (unmarked m) r t (emit m (cleared R T))
 emit_of_going_walk R T m fine r t e =
@@ -248,7 +248,7 @@ emit_of_going_walk R T m fine r t e =
     let f = g.at.few in
     let s = g.at.small in
     let rl : length (stored 0 d) + length (drop (length (stored 0 d)) (replicate {A = ℕ} R 0)) ≡ R = g.at.rows_long in
-    let tl : length (text_bytes d) + length (drop (length (text_bytes d)) (replicate {A = ℕ} T 0)) ≡ T = g.at.text-long in
+    let tl : length (text_bytes d) + length (drop (length (text_bytes d)) (replicate {A = ℕ} T 0)) ≡ T = g.at.text_long in
     let rr : r ≡ row_count d = omega arith in
     record {
       rows = rr;
@@ -256,7 +256,7 @@ emit_of_going_walk R T m fine r t e =
       few = omega arith;
       small = omega arith;
       rows_fit = omega arith;
-      text-fits = omega arith;
+      text_fits = omega arith;
       is =
           g.is
           ∙ ap₂ (λ (x : ℕ) (y : ℕ). state (stored 0 d ++ drop x (replicate {A = ℕ} R 0)) (text_bytes d ++ drop (length (text_bytes d)) (replicate {A = ℕ} T 0)) (sink_at y t)) ls rr

@@ -20,13 +20,13 @@ pub no_own_text : (rows : List ℕ) (r k : ℕ) → (k ≡ 0 → ⊥) → 0 ≡ 
 no_own_text rows r zero f = absurd (f refl)
 no_own_text rows r (suc k) f = refl
 
-pub text-none : (rows : List ℕ) → 0 ≡ text_before rows 0
+pub text_none : (rows : List ℕ) → 0 ≡ text_before rows 0
 unfolding text_before
-text-none rows = refl
+text_none rows = refl
 
-pub text-next : (rows : List ℕ) (i before own : ℕ) → before ≡ text_before rows i → own ≡ own_text rows i (word rows i 0) → before + own ≡ text_before rows (i + 1)
+pub text_next : (rows : List ℕ) (i before own : ℕ) → before ≡ text_before rows i → own ≡ own_text rows i (word rows i 0) → before + own ≡ text_before rows (i + 1)
 unfolding text_before
-text-next rows i before own p q = ap₂ ◌+◌ p q ∙ ap (text_before rows) (sym (add-one i))
+text_next rows i before own p q = ap₂ ◌+◌ p q ∙ ap (text_before rows) (sym (add-one i))
 
 pub ok_is : (rows : List ℕ) (total i before : ℕ) (b : Bool) → before ≡ text_before rows i → b ≡ rule_ok rows total before i (word rows i 0) → row_ok rows total i ≡ b
 unfolding row_ok
@@ -36,20 +36,20 @@ pub scan-start : (rows : List ℕ) (total count : ℕ) → scan rows total (coun
 scan-start rows total count = let e : count - 0 ≡ count = omega arith in ap (λ (n : ℕ). scan rows total n 0) e
 
 module _ (rows : List ℕ) (total count i : ℕ) (h : i < count) where
-  scan-here : scan rows total (count - i) i ≡ cond (row_ok rows total i) (scan rows total (count - (i + 1)) (i + 1)) i
+  scan_here : scan rows total (count - i) i ≡ cond (row_ok rows total i) (scan rows total (count - (i + 1)) (i + 1)) i
   unfolding scan
-  scan-here =
+  scan_here =
       let e : count - i ≡ suc (count - (i + 1)) = omega arith in
       ap (λ (n : ℕ). scan rows total n i) e
       ∙ ap (λ (j : ℕ). cond (row_ok rows total i) (scan rows total (count - (i + 1)) j) i) (sym (add-one i))
 
   pub scan_step : row_ok rows total i ≡ true → scan rows total (count - i) i ≡ scan rows total count 0 → scan rows total (count - (i + 1)) (i + 1) ≡ scan rows total count 0
-  scan_step ok e = sym (scan-here ∙ ap (λ (b : Bool). cond b (scan rows total (count - (i + 1)) (i + 1)) i) ok) ∙ e
+  scan_step ok e = sym (scan_here ∙ ap (λ (b : Bool). cond b (scan rows total (count - (i + 1)) (i + 1)) i) ok) ∙ e
 
-  pub fault-here : row_ok rows total i ≡ false → scan rows total (count - i) i ≡ scan rows total count 0 → i ≡ fault rows total count
+  pub fault_here : row_ok rows total i ≡ false → scan rows total (count - i) i ≡ scan rows total count 0 → i ≡ fault rows total count
   unfolding fault
-  fault-here ok e =
-      let s : scan rows total count 0 ≡ i = sym e ∙ scan-here ∙ ap (λ (b : Bool). cond b (scan rows total (count - (i + 1)) (i + 1)) i) ok in
+  fault_here ok e =
+      let s : scan rows total count 0 ≡ i = sym e ∙ scan_here ∙ ap (λ (b : Bool). cond b (scan rows total (count - (i + 1)) (i + 1)) i) ok in
       sym (rw (s, lt-ltb i count h))
 
 pub fault_end : (rows : List ℕ) (total count i before last : ℕ) (b : Bool) → i ≤ count → count ≤ i → scan rows total (count - i) i ≡ scan rows total count 0
@@ -121,12 +121,12 @@ counts words count bytes total h =
       small = leb-true _ _ (and_right (leb total bytes) _ h3);
     }
 
-pub accepted-counts : {rows : List ℕ} {count : ℕ} {texts : List ℕ} {total : ℕ} → Accepted rows count texts total → Counts (length rows) count (length texts) total
-accepted-counts {rows} {count} {texts} {total} a = counts (length rows) count (length texts) total a.counts
+pub accepted_counts : {rows : List ℕ} {count : ℕ} {texts : List ℕ} {total : ℕ} → Accepted rows count texts total → Counts (length rows) count (length texts) total
+accepted_counts {rows} {count} {texts} {total} a = counts (length rows) count (length texts) total a.counts
 
-pub accepted-sound : {rows : List ℕ} {count : ℕ} {texts : List ℕ} {total : ℕ} → Accepted rows count texts total → Sound rows total count
-accepted-sound {rows} {count} {texts} {total} a =
-    let p = (accepted-counts a).pos in
+pub accepted_sound : {rows : List ℕ} {count : ℕ} {texts : List ℕ} {total : ℕ} → Accepted rows count texts total → Sound rows total count
+accepted_sound {rows} {count} {texts} {total} a =
+    let p = (accepted_counts a).pos in
     let f = a.faultless in
     sound rows total count p (omega arith)
 

@@ -19,8 +19,8 @@ pub holds_to : {l xs : List ℕ} (i j : ℕ) → i ≡ j → Holds l i xs → Ho
 holds_to {l} {xs} i j e h = subst (λ (k : ℕ). Holds l k xs) e h
 
 module _ {l : List ℕ} {i : ℕ} where
-  pub holds-left : (xs ys : List ℕ) → Holds l i (xs ++ ys) → Holds l i xs
-  holds-left xs ys h =
+  pub holds_left : (xs ys : List ℕ) → Holds l i (xs ++ ys) → Holds l i xs
+  holds_left xs ys h =
       record {
         pre = h.pre;
         post = ys ++ h.post;
@@ -37,8 +37,8 @@ module _ {l : List ℕ} {i : ℕ} where
         at = let a = h.at in let b = length-append h.pre xs in omega arith;
       }
 
-  pub holds-append : (xs ys : List ℕ) → Holds l i xs → Holds l (i + length xs) ys → Holds l i (xs ++ ys)
-  holds-append xs ys h k =
+  pub holds_append : (xs ys : List ℕ) → Holds l i xs → Holds l (i + length xs) ys → Holds l i (xs ++ ys)
+  holds_append xs ys h k =
       let a = h.at in
       let b = length-append h.pre xs in
       let e : h.post ≡ ys ++ k.post =
@@ -64,8 +64,8 @@ module _ {l : List ℕ} {i : ℕ} where
       ∙ ap (take (length xs)) (drop_at h.pre (xs ++ h.post) i h.at)
       ∙ take_at xs h.post (length xs) refl
 
-  pub holds-take : (n : ℕ) → i ≤ length l → Holds l i (take n (drop i l))
-  holds-take n h =
+  pub holds_take : (n : ℕ) → i ≤ length l → Holds l i (take n (drop i l))
+  holds_take n h =
       record {
         pre = take i l;
         post = drop n (drop i l);

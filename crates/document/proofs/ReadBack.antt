@@ -14,7 +14,7 @@ use Rattle.document.specs.Doc.{Doc, text, join, break, nest, group, row_count, f
 use Rattle.document.specs.Rows.{word, left_of, node, doc_at, measures_at, derived, own_text, text_before, rule_ok, row_ok, scan, whole, fault, Accepted}
 use Rattle.document.specs.Stored.{row_of, own_row, stored, Fine}
 use Rattle.basics.proofs.Booleans.{and_intro}
-use Rattle.document.proofs.Holds.{Holds, holds_front, holds_to, holds-left, holds_right, holds_at, holds_part}
+use Rattle.document.proofs.Holds.{Holds, holds_front, holds_to, holds_left, holds_right, holds_at, holds_part}
 use Rattle.document.proofs.Words.{Kept, Same, of_same}
 
 pub split : (i k : ℕ) → (i < k) ⊎ (k ≤ i)
@@ -39,13 +39,13 @@ stored-length t (break k) = refl
 stored-length t (nest m d) = let x = stored-length t d in let p = length-append (stored t d) (own_row t (nest m d)) in omega arith
 stored-length t (group d) = let x = stored-length t d in let p = length-append (stored t d) (own_row t (group d)) in omega arith
 
-pub some-row : (d : Doc) → 1 ≤ row_count d
+pub some_row : (d : Doc) → 1 ≤ row_count d
 unfolding row_count
-some-row (text s) = omega arith
-some-row (join a b) = omega arith
-some-row (break k) = omega arith
-some-row (nest m d) = omega arith
-some-row (group d) = omega arith
+some_row (text s) = omega arith
+some_row (join a b) = omega arith
+some_row (break k) = omega arith
+some_row (nest m d) = omega arith
+some_row (group d) = omega arith
 
 module _ (rows : List ℕ) where
   -- the last row of what is stored from row p on is the document's own
@@ -86,7 +86,7 @@ module _ (rows : List ℕ) where
   right_rows a b t p h =
       let x = stored-length t a in
       holds_to (p * 7 + length (stored t a)) _ (omega arith)
-      (holds-left (stored (t + length (text_bytes a)) b) (own_row t (join a b))
+      (holds_left (stored (t + length (text_bytes a)) b) (own_row t (join a b))
       (holds_right (stored t a) (stored (t + length (text_bytes a)) b ++ own_row t (join a b)) h))
 
   module _ (texts : List ℕ) where
@@ -102,26 +102,26 @@ module _ (rows : List ℕ) where
         let t' = t + length (text_bytes a) in
         let o : Holds rows (r * 7) (row_of 1 0 0 (join a b)) = own (join a b) t p r e h in
         let hb = right_rows a b t p h in
-        let x = some-row a in
-        let y = some-row b in
+        let x = some_row a in
+        let y = some_row b in
         let c : word rows (r - 1) 3 ≡ row_count b = (own_words b t' (r - 1) (own b t' (p + row_count a) (r - 1) (omega arith) hb)).count in
         ap (node rows texts (doc_at rows texts f) r) (holds_at _ 0 (omega arith) o)
         ∙ ap₂ join
-        (read_back a t p (left_of rows r) f (omega arith) (holds-left _ _ h) (holds-left _ _ g) (omega arith))
+        (read_back a t p (left_of rows r) f (omega arith) (holds_left _ _ h) (holds_left _ _ g) (omega arith))
         (read_back b t' (p + row_count a) (r - 1) f (omega arith) hb (holds_right (text_bytes a) (text_bytes b) g) (omega arith))
     read_back (break k) t p r (suc f) e h g q =
         let o : Holds rows (r * 7) (row_of 2 k 0 (break k)) = own (break k) t p r e h in
         ap (node rows texts (doc_at rows texts f) r) (holds_at _ 0 (omega arith) o) ∙ ap break (holds_at _ 1 (omega arith) o)
     read_back (nest m d) t p r (suc f) e h g q =
         let o : Holds rows (r * 7) (row_of 3 m 0 (nest m d)) = own (nest m d) t p r e h in
-        let x = some-row d in
+        let x = some_row d in
         ap (node rows texts (doc_at rows texts f) r) (holds_at _ 0 (omega arith) o)
-        ∙ ap₂ nest (holds_at _ 1 (omega arith) o) (read_back d t p (r - 1) f (omega arith) (holds-left _ _ h) g (omega arith))
+        ∙ ap₂ nest (holds_at _ 1 (omega arith) o) (read_back d t p (r - 1) f (omega arith) (holds_left _ _ h) g (omega arith))
     read_back (group d) t p r (suc f) e h g q =
         let o : Holds rows (r * 7) (row_of 4 0 0 (group d)) = own (group d) t p r e h in
-        let x = some-row d in
+        let x = some_row d in
         ap (node rows texts (doc_at rows texts f) r) (holds_at _ 0 (omega arith) o)
-        ∙ ap group (read_back d t p (r - 1) f (omega arith) (holds-left _ _ h) g (omega arith))
+        ∙ ap group (read_back d t p (r - 1) f (omega arith) (holds_left _ _ h) g (omega arith))
 
   -- ---- the row rules
 
@@ -162,7 +162,7 @@ module _ (rows : List ℕ) where
   wrapped_same : (d e : Doc) (t p r k : ℕ) → row_count e ≡ 1 + row_count d → flat_size e ≡ flat_size d → first_break e ≡ first_break d → has_break e ≡ has_break d
       → suc r ≡ 1 + p + row_count d → Holds rows (p * 7) (stored t d) → Words e r → Same (measures_at rows r) (derived rows r (suc (suc (suc k))))
   wrapped_same d e t p r k n l f b s h w =
-      let x = some-row d in
+      let x = some_row d in
       let wd = own_words d t (r - 1) (own d t p (r - 1) (omega arith) h) in
       record {
         count = w.count ∙ n ∙ ap (λ (x : ℕ). 1 + x) (sym wd.count);
@@ -188,16 +188,16 @@ module _ (rows : List ℕ) where
       let t' = t + length (text_bytes a) in
       let l = length-append (text_bytes a) (text_bytes b) in
       let r : ℕ = p + row_count a + row_count b in
-      let xa = some-row a in
-      let xb = some-row b in
-      let ka = stored_ok total a t p y.0 (holds-left _ _ h) g (omega arith) in
+      let xa = some_row a in
+      let xb = some_row b in
+      let ka = stored_ok total a t p y.0 (holds_left _ _ h) g (omega arith) in
       let hb = right_rows a b t p h in
       let kb = stored_ok total b t' (p + row_count a) y.1 hb ka.texts (omega arith) in
       let o : Holds rows (r * 7) (row_of 1 0 0 (join a b)) = own (join a b) t p r (omega arith) h in
       let w = words 1 0 0 (join a b) r o in
       let wb = own_words b t' (r - 1) (own b t' (p + row_count a) (r - 1) (omega arith) hb) in
       let q : left_of rows r ≡ p + row_count a - 1 = let c = wb.count in omega arith in
-      let wa : Words a (left_of rows r) = own_words a t _ (own a t p (left_of rows r) (omega arith) (holds-left _ _ h)) in
+      let wa : Words a (left_of rows r) = own_words a t _ (own a t p (left_of rows r) (omega arith) (holds_left _ _ h)) in
       let cb : word rows (r - 1) 3 ≡ row_count b = wb.count in
       let kab = rows_ok_append ka kb in
       let i : r ≡ p + (row_count a + row_count b) = omega arith in
@@ -227,9 +227,9 @@ module _ (rows : List ℕ) where
       })
   stored_ok total (nest m d) t p y h g z =
       let r : ℕ = p + row_count d in
-      let x = some-row d in
+      let x = some_row d in
       let ym : m ≤ 64 = y.0 in
-      let k = stored_ok total d t p y.1 (holds-left _ _ h) g z in
+      let k = stored_ok total d t p y.1 (holds_left _ _ h) g z in
       let o : Holds rows (r * 7) (row_of 3 m 0 (nest m d)) = own (nest m d) t p r (omega arith) h in
       let w1 : word rows r 1 ≡ m = holds_at _ 1 (omega arith) o in
       rows_ok_to {n = row_count d + 1} {x = length (text_bytes d) + 0} refl (omega arith) (omega arith)
@@ -237,19 +237,19 @@ module _ (rows : List ℕ) where
       (row_is_ok r 3 0 (holds_at _ 0 (omega arith) o) k.texts refl
       (record {
         fields = and_intro (lt-ltb 0 r (omega arith)) (and_intro (lt-ltb (word rows r 1) 65 (omega arith)) (eq-eqb (word rows r 2) 0 (holds_at _ 2 (omega arith) o)));
-        measures = wrapped_same d (nest m d) t p r 0 refl refl refl refl (omega arith) (holds-left _ _ h) (words 3 m 0 (nest m d) r o);
+        measures = wrapped_same d (nest m d) t p r 0 refl refl refl refl (omega arith) (holds_left _ _ h) (words 3 m 0 (nest m d) r o);
       })))
   stored_ok total (group d) t p y h g z =
       let r : ℕ = p + row_count d in
-      let x = some-row d in
-      let k = stored_ok total d t p y (holds-left _ _ h) g z in
+      let x = some_row d in
+      let k = stored_ok total d t p y (holds_left _ _ h) g z in
       let o : Holds rows (r * 7) (row_of 4 0 0 (group d)) = own (group d) t p r (omega arith) h in
       rows_ok_to {n = row_count d + 1} {x = length (text_bytes d) + 0} refl (omega arith) (omega arith)
       (rows_ok_append k
       (row_is_ok r 4 0 (holds_at _ 0 (omega arith) o) k.texts refl
       (record {
         fields = and_intro (lt-ltb 0 r (omega arith)) (and_intro refl (and_intro (eq-eqb (word rows r 1) 0 (holds_at _ 1 (omega arith) o)) (eq-eqb (word rows r 2) 0 (holds_at _ 2 (omega arith) o))));
-        measures = wrapped_same d (group d) t p r 1 refl refl refl refl (omega arith) (holds-left _ _ h) (words 4 0 0 (group d) r o);
+        measures = wrapped_same d (group d) t p r 1 refl refl refl refl (omega arith) (holds_left _ _ h) (words 4 0 0 (group d) r o);
       })))
 
 -- ---- a whole document
@@ -267,7 +267,7 @@ module _ (d : Doc) (more_rows more_texts : List ℕ) where
   -- the document of stored rows is the document
   pub stored_reads_back : doc_at (stored 0 d ++ more_rows) (text_bytes d ++ more_texts) (row_count d) (row_count d - 1) ≡ d
   stored_reads_back =
-      let x = some-row d in
+      let x = some_row d in
       read_back (stored 0 d ++ more_rows) (text_bytes d ++ more_texts) d 0 0 (row_count d - 1) (row_count d) (omega arith)
       (holds_front (stored 0 d) more_rows) (holds_front (text_bytes d) more_texts) (omega arith)
 
@@ -277,12 +277,12 @@ module _ (d : Doc) (more_rows more_texts : List ℕ) where
     rows_ok = stored_ok (stored 0 d ++ more_rows) (length (text_bytes d)) d 0 0 fine (holds_front (stored 0 d) more_rows) refl (omega arith)
 
     -- no row of a stored document is faulty
-    pub stored-faultless : fault (stored 0 d ++ more_rows) (length (text_bytes d)) (row_count d) ≡ row_count d
+    pub stored_faultless : fault (stored 0 d ++ more_rows) (length (text_bytes d)) (row_count d) ≡ row_count d
     unfolding fault whole
-    stored-faultless =
+    stored_faultless =
         let rows : List ℕ = stored 0 d ++ more_rows in
         let total : ℕ = length (text_bytes d) in
-        let x = some-row d in
+        let x = some_row d in
         let z : 0 + row_count d ≡ row_count d = omega arith in
         let s : scan rows total (row_count d) 0 ≡ row_count d = scan_good rows total (row_count d) 0 rows_ok.ok ∙ z in
         let c : word rows (row_count d - 1) 3 ≡ row_count d =
@@ -292,18 +292,18 @@ module _ (d : Doc) (more_rows more_texts : List ℕ) where
         rw (s, le-ltb (row_count d) (row_count d) m, eq-eqb _ _ c, eq-eqb _ _ t)
 
     -- stored rows are accepted
-    pub stored-accepted : row_count d ≤ 16384 → length (text_bytes d) ≤ 65536
+    pub stored_accepted : row_count d ≤ 16384 → length (text_bytes d) ≤ 65536
         → Accepted (stored 0 d ++ more_rows) (row_count d) (text_bytes d ++ more_texts) (length (text_bytes d))
-    stored-accepted few small =
+    stored_accepted few small =
         let s = stored-length 0 d in
         let n = length-append (stored 0 d) more_rows in
         let m = length-append (text_bytes d) more_texts in
-        let o = some-row d in
+        let o = some_row d in
         record {
           counts =
               and_intro (lt-ltb 0 (row_count d) (omega arith))
               (and_intro (le-leb (row_count d) 16384 few)
               (and_intro (le-leb (row_count d * 7) (length (stored 0 d ++ more_rows)) (omega arith))
               (and_intro (le-leb (length (text_bytes d)) (length (text_bytes d ++ more_texts)) (omega arith)) (le-leb (length (text_bytes d)) 65536 small))));
-          faultless = stored-faultless;
+          faultless = stored_faultless;
         }

@@ -83,10 +83,10 @@ unfolding steps
 steps-append R T p [] ys = refl
 steps-append R T p (x ∷ xs) ys = steps-append R T (step R T p x) xs ys
 
-steps-stopped : (R T n p : ℕ) (es : List Event) → steps R T (stopped n p) es ≡ stopped n p
+steps_stopped : (R T n p : ℕ) (es : List Event) → steps R T (stopped n p) es ≡ stopped n p
 unfolding steps step
-steps-stopped R T n p [] = refl
-steps-stopped R T n p (e ∷ es) = steps-stopped R T n p es
+steps_stopped R T n p [] = refl
+steps_stopped R T n p (e ∷ es) = steps_stopped R T n p es
 
 -- ---- agreement
 
@@ -98,7 +98,7 @@ pub record At (R T : ℕ) (pre rest tpre trest : List ℕ) (r t : ℕ) : Type 0 
   pub rows_at : length pre ≡ r * 7
   pub text_at : length tpre ≡ t
   pub rows_long : length pre + length rest ≡ R
-  pub text-long : length tpre + length trest ≡ T
+  pub text_long : length tpre + length trest ≡ T
   pub few : r ≤ 16384
   pub small : t ≤ 65536
 
@@ -145,7 +145,7 @@ then R T pre rest tpre trest ws bs vs cs (going r t) es f st s k g =
     subst (λ (x : State). Agree R T pre rest tpre trest (ws ++ vs) (bs ++ cs) (steps R T (going r t) es) (f x)) (sym g.is)
     (regroup R T pre rest tpre trest ws bs vs cs (steps R T (going r t) es) _ (k r t g.at))
 then R T pre rest tpre trest ws bs vs cs (stopped n p) es f st s k g =
-    subst (λ (q : Progress). Agree R T pre rest tpre trest (ws ++ vs) (bs ++ cs) q (f st)) (sym (steps-stopped R T n p es))
+    subst (λ (q : Progress). Agree R T pre rest tpre trest (ws ++ vs) (bs ++ cs) q (f st)) (sym (steps_stopped R T n p es))
     (subst (λ (x : State). Stopped n p x) (sym (s st (ap (λ (k : ℕ). eqb k 0) g.stop ∙ g.some))) g)
 
 -- ---- one event
@@ -164,8 +164,8 @@ at_more {R} {T} {pre} {rest} {tpre} {trest} {r} {t} at ws bs r' t' lw lb er et f
     let a = at.rows_at in
     let b = at.text_at in
     let x = at.rows_long in
-    let y = at.text-long in
-    record { rows_at = omega arith; text_at = omega arith; rows_long = omega arith; text-long = omega arith; few = few; small = small }
+    let y = at.text_long in
+    record { rows_at = omega arith; text_at = omega arith; rows_long = omega arith; text_long = omega arith; few = few; small = small }
 
 module _ (R T : ℕ) (pre rest tpre trest : List ℕ) (r t : ℕ) (at : At R T pre rest tpre trest r t) where
   -- a row
@@ -211,7 +211,7 @@ module _ (R T : ℕ) (pre rest tpre trest : List ℕ) (r t : ℕ) (at : At R T p
       Agree R T pre rest tpre trest [] (b ∷ [])
       (cond (ltb t 65536) (cond (ltb t n) (going r (t + 1)) (stopped 21 r)) (stopped 8 r))
       (put_byte b (areas pre rest tpre trest r t)))
-      (length-append tpre trest ∙ at.text-long)
+      (length-append tpre trest ∙ at.text_long)
       (go (ltb t 65536) (ltb t (length (tpre ++ trest))) (ltb-true _ _) (ltb-true _ _))
     where
       go : (x y : Bool) → (x ≡ true → t < 65536) → (y ≡ true → t < length (tpre ++ trest))

@@ -13,9 +13,9 @@ use Rattle.document.specs.Doc.{Doc, join, row_count, text_bytes}
 use Rattle.document.specs.Rows.{word, left_of, node, doc_at, own_text, text_before, Valid, Accepted}
 use Rattle.document.specs.Stored.{row_of, own_row, stored, Fine}
 use Rattle.basics.proofs.Booleans.{and_left, and_right}
-use Rattle.document.proofs.Faults.{accepted-counts, accepted-sound}
-use Rattle.document.proofs.Holds.{Holds, holds_to, holds-append, holds-take, holds_part}
-use Rattle.document.proofs.Words.{kept, text-within, text-before-within, text-long, join_right, blank-small, nest_amount, has_child, wrapped-count, Sized, sized}
+use Rattle.document.proofs.Faults.{accepted_counts, accepted_sound}
+use Rattle.document.proofs.Holds.{Holds, holds_to, holds_append, holds_take, holds_part}
+use Rattle.document.proofs.Words.{kept, text_within, text_before_within, text_long, join_right, blank_small, nest_amount, has_child, wrapped_count, Sized, sized}
 use Rattle.document.proofs.ReadBack.{stored-length}
 
 seven : (f : ℕ → ℕ) (k : ℕ) → k < 7 → get_or (f 0 ∷ f 1 ∷ f 2 ∷ f 3 ∷ f 4 ∷ f 5 ∷ f 6 ∷ []) k 0 ≡ f k
@@ -36,7 +36,7 @@ row_words rows r h =
     subst (λ (z : List ℕ). Holds rows (r * 7) z)
     (ext_get_or 0 (take 7 (drop (r * 7) rows)) _ n
     (λ k p. let q : k < 7 = omega arith in get_or-take 7 (drop (r * 7) rows) k 0 q ∙ get_or-drop (r * 7) rows k 0 ∙ sym (seven (word rows r) k q)))
-    (holds-take 7 (omega arith))
+    (holds_take 7 (omega arith))
 
 row_is : (rows : List ℕ) (r kind a b : ℕ) (d : Doc) → r * 7 + 7 ≤ length rows → word rows r 0 ≡ kind → word rows r 1 ≡ a → word rows r 2 ≡ b → word
     rows r 3 ≡ row_count d → Sized rows r d
@@ -66,7 +66,7 @@ module _ (rows texts : List ℕ) (total count : ℕ) (valid : Valid rows total c
   unfolding text_before
   wrapped-stored r k a d e below e0 e1 e2 n b s fine z at =
       let o = has_child rows total count valid r below k e0 in
-      let c = wrapped-count rows total count valid r below k e0 in
+      let c = wrapped_count rows total count valid r below k e0 in
       let dt = at.to in
       let dc = at.count in
       let sr : suc (r - 1) ≡ r = omega arith in
@@ -77,7 +77,7 @@ module _ (rows texts : List ℕ) (total count : ℕ) (valid : Valid rows total c
         to = omega arith;
         rows_are =
             subst (λ (l : List ℕ). Holds rows (at.from * 7) l) (sym (s (text_before rows at.from)))
-            (holds-append _ _ at.rows_are
+            (holds_append _ _ at.rows_are
             (holds_to (r * 7) _ (omega arith) (row_is rows r (suc (suc (suc k))) a 0 e (omega arith) e0 e1 e2 (omega arith) z)));
         texts_are = subst (λ (l : List ℕ). Holds texts (text_before rows at.from) l) (sym b) at.texts_are;
         text_end =
@@ -94,16 +94,16 @@ module _ (rows texts : List ℕ) (total count : ℕ) (valid : Valid rows total c
   unfolding node row_count stored own_row text_bytes Fine text_before
   stored-node before r zero below e z ih =
       let m = kept rows total count valid r below 0 e in
-      let t = text-within rows total count valid r below e in
+      let t = text_within rows total count valid r below e in
       let w1 : word rows r 1 ≡ text_before rows r = eqb-true _ _ (and_left (eqb (word rows r 1) (text_before rows r)) _ m.fields) in
-      let n = text-long rows texts total count valid size r below e in
+      let n = text_long rows texts total count valid size r below e in
       let c = m.measures.count in
       record {
         from = r;
         count = sym c;
         to = omega arith;
         rows_are = row_is rows r 0 (text_before rows r) _ _ (omega arith) e w1 (sym n) c z;
-        texts_are = holds_to (word rows r 1) _ w1 (holds-take (word rows r 2) (omega arith));
+        texts_are = holds_to (word rows r 1) _ w1 (holds_take (word rows r 2) (omega arith));
         text_end = ap (λ (x : ℕ). text_before rows r + own_text rows r x) e ∙ ap (λ (x : ℕ). text_before rows r + x) (sym n);
         fine = tt;
       }
@@ -132,28 +132,28 @@ module _ (rows texts : List ℕ) (total count : ℕ) (valid : Valid rows total c
         count = ap₂ (λ (x y : ℕ). 1 + x + y) ac bc ∙ sym c;
         to = omega arith;
         rows_are =
-            holds-append _ _ a.rows_are
-            (holds-append _ _
+            holds_append _ _ a.rows_are
+            (holds_append _ _
             (holds_to (b.from * 7) _ (omega arith) (subst (λ (x : ℕ). Holds rows (b.from * 7) (stored x B)) bt2 b.rows_are))
             (holds_to (r * 7) _ (omega arith)
             (row_is rows r 1 0 0 (join A B) (omega arith) e
             (eqb-true _ _ (and_left (eqb (word rows r 1) 0) _ f1)) (eqb-true _ _ (and_right (eqb (word rows r 1) 0) (eqb (word rows r 2) 0) f1))
             (c ∙ sym (ap₂ (λ (x y : ℕ). 1 + x + y) ac bc)) z)));
-        texts_are = holds-append _ _ a.texts_are (holds_to (text_before rows b.from) _ bt2 b.texts_are);
+        texts_are = holds_append _ _ a.texts_are (holds_to (text_before rows b.from) _ bt2 b.texts_are);
         text_end = ap (λ (x : ℕ). text_before rows r + own_text rows r x) e ∙ (omega arith);
         fine = (a.fine, b.fine);
       }
   stored-node before r (suc (suc zero)) below e z ih =
       let m = kept rows total count valid r below 2 e in
       let c = m.measures.count in
-      let k2 = blank-small rows total count valid r below e in
+      let k2 = blank_small rows total count valid r below e in
       record {
         from = r;
         count = sym c;
         to = omega arith;
         rows_are =
             row_is rows r 2 (word rows r 1) 0 _ (omega arith) e refl (eqb-true _ _ (and_right (ltb (word rows r 1) 2) (eqb (word rows r 2) 0) m.fields)) c z;
-        texts_are = holds-take 0 (let h = text-before-within rows total count valid r (omega arith) in omega arith);
+        texts_are = holds_take 0 (let h = text_before_within rows total count valid r (omega arith) in omega arith);
         text_end = ap (λ (x : ℕ). text_before rows r + own_text rows r x) e;
         fine = omega arith;
       }
@@ -182,20 +182,20 @@ module _ (rows texts : List ℕ) (total count : ℕ) (valid : Valid rows total c
 -- ---- an accepted document
 
 pub record StoredWhole (rows : List ℕ) (count : ℕ) (texts : List ℕ) (total : ℕ) (d : Doc) : Type 0 where
-  pub rows-count : row_count d ≡ count
-  pub text-count : length (text_bytes d) ≡ total
+  pub rows_count : row_count d ≡ count
+  pub text_count : length (text_bytes d) ≡ total
   pub rows_are : take (count * 7) rows ≡ stored 0 d
   pub texts_are : take total texts ≡ text_bytes d
   pub fine : Fine d
 
 -- of accepted rows, storing their document gives the rows and the texts again
-pub accepted-stored : (rows : List ℕ) (count : ℕ) (texts : List ℕ) (total : ℕ) → Accepted rows count texts total
+pub accepted_stored : (rows : List ℕ) (count : ℕ) (texts : List ℕ) (total : ℕ) → Accepted rows count texts total
     → StoredWhole rows count texts total (doc_at rows texts count (count - 1))
 unfolding text_before
-accepted-stored rows count texts total a =
-    let k = accepted-counts a in
+accepted_stored rows count texts total a =
+    let k = accepted_counts a in
     let p = k.pos in
-    let s = accepted-sound a in
+    let s = accepted_sound a in
     let d : Doc = doc_at rows texts count (count - 1) in
     let w = stored_at rows texts total count s.valid k.within k.long count (count - 1) (omega arith) (omega arith) in
     let l = s.last in
@@ -211,8 +211,8 @@ accepted-stored rows count texts total a =
     ∙ s.texts in
     let sl = stored-length 0 d in
     record {
-      rows-count = omega arith;
-      text-count = b;
+      rows_count = omega arith;
+      text_count = b;
       rows_are =
           ap (λ (x : ℕ). take x rows) (let e : count * 7 ≡ length (stored 0 d) = omega arith in e)
           ∙ holds_part (stored 0 d) (subst (λ (x : ℕ). Holds rows (x * 7) (stored (text_before rows x) d)) z w.rows_are);

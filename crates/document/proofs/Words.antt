@@ -16,16 +16,16 @@ use Rattle.basics.proofs.Booleans.{and_left, and_right, and_intro}
 
 -- ---- numbers
 
-pub through-none : (has first after : ℕ) → has ≡ 0 → first + after ≡ through has first after
-through-none has first after e = sym (ap (λ (h : ℕ). through h first after) e)
+pub through_none : (has first after : ℕ) → has ≡ 0 → first + after ≡ through has first after
+through_none has first after e = sym (ap (λ (h : ℕ). through h first after) e)
 
-pub through-some : (has first after : ℕ) → (has ≡ 0 → ⊥) → first ≡ through has first after
-through-some zero first after f = absurd (f refl)
-through-some (suc h) first after f = refl
+pub through_some : (has first after : ℕ) → (has ≡ 0 → ⊥) → first ≡ through has first after
+through_some zero first after f = absurd (f refl)
+through_some (suc h) first after f = refl
 
-pub either-some : (a b : ℕ) → (a ≡ 0 → ⊥) → 1 ≡ either a b
-either-some zero b f = absurd (f refl)
-either-some (suc a) b f = refl
+pub either_some : (a b : ℕ) → (a ≡ 0 → ⊥) → 1 ≡ either a b
+either_some zero b f = absurd (f refl)
+either_some (suc a) b f = refl
 
 -- a kind that is none of the first four, or of the first three
 pub kind_rest : (k : ℕ) → (k ≡ 0 → ⊥) → (k ≡ 1 → ⊥) → (k ≡ 2 → ⊥) → (k ≡ 3 → ⊥) → (j : ℕ) × (k ≡ suc (suc (suc (suc j))))
@@ -80,8 +80,8 @@ module _ (rows : List ℕ) (total count : ℕ) (valid : Valid rows total count) 
       }
 
   -- a text's bytes are within the texts
-  pub text-within : word rows r 0 ≡ 0 → word rows r 1 + word rows r 2 ≤ total
-  text-within e =
+  pub text_within : word rows r 0 ≡ 0 → word rows r 1 + word rows r 2 ≤ total
+  text_within e =
       let f = (kept 0 e).fields in
       let p : word rows r 1 ≡ text_before rows r = eqb-true _ _ (and_left (eqb (word rows r 1) (text_before rows r)) _ f) in
       let q : text_before rows r + word rows r 2 ≤ total = leb-true _ _ (and_right (eqb (word rows r 1) (text_before rows r)) _ f) in
@@ -90,8 +90,8 @@ module _ (rows : List ℕ) (total count : ℕ) (valid : Valid rows total count) 
   pub join_right : word rows r 0 ≡ 1 → word rows (r - 1) 3 < r
   join_right e = ltb-true _ _ (and_left (ltb (word rows (r - 1) 3) r) _ (kept 1 e).fields)
 
-  pub blank-small : word rows r 0 ≡ 2 → word rows r 1 < 2
-  blank-small e = ltb-true _ _ (and_left (ltb (word rows r 1) 2) _ (kept 2 e).fields)
+  pub blank_small : word rows r 0 ≡ 2 → word rows r 1 < 2
+  blank_small e = ltb-true _ _ (and_left (ltb (word rows r 1) 2) _ (kept 2 e).fields)
 
   pub nest_amount : word rows r 0 ≡ 3 → word rows r 1 < 65
   nest_amount e = ltb-true _ _ (and_left (ltb (word rows r 1) 65) _ (and_right (ltb 0 r) _ (kept 3 e).fields))
@@ -105,24 +105,24 @@ module _ (rows : List ℕ) (total count : ℕ) (valid : Valid rows total count) 
   pub leaf_count : (k : ℕ) → word rows r 0 ≡ k → (k ≡ 0) ⊎ (k ≡ 2) → word rows r 3 ≡ 1
   leaf_count k e s = ⊎_elim (λ z. (kept 0 (e ∙ z)).measures.count) (λ z. (kept 2 (e ∙ z)).measures.count) s
 
-  pub join-count : word rows r 0 ≡ 1 → word rows r 3 ≡ 1 + word rows (left_of rows r) 3 + word rows (r - 1) 3
-  join-count e = (kept 1 e).measures.count
+  pub join_count : word rows r 0 ≡ 1 → word rows r 3 ≡ 1 + word rows (left_of rows r) 3 + word rows (r - 1) 3
+  join_count e = (kept 1 e).measures.count
 
-  pub wrapped-count : (k : ℕ) → word rows r 0 ≡ suc (suc (suc k)) → word rows r 3 ≡ 1 + word rows (r - 1) 3
-  wrapped-count k e = (kept (suc (suc (suc k))) e).measures.count
+  pub wrapped_count : (k : ℕ) → word rows r 0 ≡ suc (suc (suc k)) → word rows r 3 ≡ 1 + word rows (r - 1) 3
+  wrapped_count k e = (kept (suc (suc (suc k))) e).measures.count
 
-  pub some-row : (k : ℕ) → word rows r 0 ≡ k → 1 ≤ word rows r 3
-  some-row zero e = let m = (kept 0 e).measures.count in omega arith
-  some-row (suc zero) e = let m = join-count e in omega arith
-  some-row (suc (suc zero)) e = let m = (kept 2 e).measures.count in omega arith
-  some-row (suc (suc (suc k))) e = let m = wrapped-count k e in omega arith
+  pub some_row : (k : ℕ) → word rows r 0 ≡ k → 1 ≤ word rows r 3
+  some_row zero e = let m = (kept 0 e).measures.count in omega arith
+  some_row (suc zero) e = let m = join_count e in omega arith
+  some_row (suc (suc zero)) e = let m = (kept 2 e).measures.count in omega arith
+  some_row (suc (suc (suc k))) e = let m = wrapped_count k e in omega arith
 
 -- the texts so far end within the text
-pub text-before-within : (rows : List ℕ) (total count : ℕ) → Valid rows total count → (r : ℕ) → r ≤ count → text_before rows r ≤ total
+pub text_before_within : (rows : List ℕ) (total count : ℕ) → Valid rows total count → (r : ℕ) → r ≤ count → text_before rows r ≤ total
 unfolding text_before
-text-before-within rows total count valid zero p = omega arith
-text-before-within rows total count valid (suc r) p =
-    go (text-before-within rows total count valid r (omega arith)) (word rows r 0) refl
+text_before_within rows total count valid zero p = omega arith
+text_before_within rows total count valid (suc r) p =
+    go (text_before_within rows total count valid r (omega arith)) (word rows r 0) refl
   where
     go : text_before rows r ≤ total → (k : ℕ) → word rows r 0 ≡ k → text_before rows r + own_text rows r k ≤ total
     go h zero e =
@@ -137,8 +137,8 @@ pub record Sized (rows : List ℕ) (r : ℕ) (d : Doc) : Type 0 where
   pub has : has_break d ≡ word rows r 6
 
 module _ (rows texts : List ℕ) (total count : ℕ) (valid : Valid rows total count) (size : total ≤ length texts) where
-  pub text-long : (r : ℕ) → r < count → word rows r 0 ≡ 0 → length (take (word rows r 2) (drop (word rows r 1) texts)) ≡ word rows r 2
-  text-long r below e = let t = text-within rows total count valid r below e in length-take-le _ _ (rw length-drop (omega arith))
+  pub text_long : (r : ℕ) → r < count → word rows r 0 ≡ 0 → length (take (word rows r 2) (drop (word rows r 1) texts)) ≡ word rows r 2
+  text_long r below e = let t = text_within rows total count valid r below e in length-take-le _ _ (rw length-drop (omega arith))
 
   wrapped_sized : (r k : ℕ) (d : Doc) → r < count → word rows r 0 ≡ suc (suc (suc k)) → Sized rows (r - 1) d → Sized rows r d
   wrapped_sized r k d below e s =
@@ -150,7 +150,7 @@ module _ (rows texts : List ℕ) (total count : ℕ) (valid : Valid rows total c
   unfolding node flat_size first_break has_break
   sized_node before r zero below e ih =
       let m = (kept rows total count valid r below 0 e).measures in
-      let long = text-long r below e in
+      let long = text_long r below e in
       record { flat = long ∙ sym m.flat; first = long ∙ sym m.first; has = sym m.has }
   sized_node before r (suc zero) below e ih =
       let m = (kept rows total count valid r below 1 e).measures in

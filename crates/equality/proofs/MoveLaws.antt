@@ -14,23 +14,23 @@ nothing A B = record { refuted = λ e. absurd (omega arith); down = λ e. absurd
 
 -- ---- two parts
 
-pub tied-none : (F S : ℕ → Shape) (x y : ℕ) → x ≡ 0 → y ≡ 0 → Tied F S x y
+pub tied_none : (F S : ℕ → Shape) (x y : ℕ) → x ≡ 0 → y ≡ 0 → Tied F S x y
 unfolding Tied
-tied-none F S zero zero e q = refl
-tied-none F S zero (suc y) e q = absurd (omega arith)
-tied-none F S (suc x) y e q = absurd (omega arith)
+tied_none F S zero zero e q = refl
+tied_none F S zero (suc y) e q = absurd (omega arith)
+tied_none F S (suc x) y e q = absurd (omega arith)
 
-pub tied-first : (F S : ℕ → Shape) (x y : ℕ) → x ≡ 0 → (y ≡ 0 → ⊥) → Tied F S x y → ⊥
+pub tied_first : (F S : ℕ → Shape) (x y : ℕ) → x ≡ 0 → (y ≡ 0 → ⊥) → Tied F S x y → ⊥
 unfolding Tied
-tied-first F S zero zero e n h = n refl
-tied-first F S zero (suc y) e n h = h
-tied-first F S (suc x) y e n h = absurd (omega arith)
+tied_first F S zero zero e n h = n refl
+tied_first F S zero (suc y) e n h = h
+tied_first F S (suc x) y e n h = absurd (omega arith)
 
-pub tied-second : (F S : ℕ → Shape) (x y : ℕ) → (x ≡ 0 → ⊥) → y ≡ 0 → Tied F S x y → ⊥
+pub tied_second : (F S : ℕ → Shape) (x y : ℕ) → (x ≡ 0 → ⊥) → y ≡ 0 → Tied F S x y → ⊥
 unfolding Tied
-tied-second F S zero y n e h = n refl
-tied-second F S (suc x) zero n e h = h
-tied-second F S (suc x) (suc y) n e h = absurd (omega arith)
+tied_second F S zero y n e h = n refl
+tied_second F S (suc x) zero n e h = h
+tied_second F S (suc x) (suc y) n e h = absurd (omega arith)
 
 pub tied_to : (F S : ℕ → Shape) (x y : ℕ) → (x ≡ 0 → ⊥) → (y ≡ 0 → ⊥) → F (x - 1) ≡ S (y - 1) → Tied F S x y
 unfolding Tied
@@ -47,17 +47,17 @@ tied_from F S (suc x) (suc y) n m h =
     ap F (let e : suc x - 1 ≡ x = omega arith in e) ∙ h ∙ ap S (let e : y ≡ suc y - 1 = omega arith in e)
 
 module _ (array owed : List ℕ) (x y : ℕ) where
-  pub put-none : x ≡ 0 → y ≡ 0 → PutPart array owed array owed x y 1
-  put-none e q =
-      record { moved = λ F S. record { refuted = λ z. absurd (omega arith); down = λ z o. (o, tied-none F S x y e q); up = λ z o. o.0 } }
+  pub put_none : x ≡ 0 → y ≡ 0 → PutPart array owed array owed x y 1
+  put_none e q =
+      record { moved = λ F S. record { refuted = λ z. absurd (omega arith); down = λ z o. (o, tied_none F S x y e q); up = λ z o. o.0 } }
 
   pub put_first_alone : x ≡ 0 → (y ≡ 0 → ⊥) → PutPart array owed array owed x y 0
   put_first_alone e n =
-      record { moved = λ F S. record { refuted = λ z o. tied-first F S x y e n o.1; down = λ z. absurd (omega arith); up = λ z. absurd (omega arith) } }
+      record { moved = λ F S. record { refuted = λ z o. tied_first F S x y e n o.1; down = λ z. absurd (omega arith); up = λ z. absurd (omega arith) } }
 
   pub put_second_alone : (x ≡ 0 → ⊥) → y ≡ 0 → PutPart array owed array owed x y 0
   put_second_alone n e =
-      record { moved = λ F S. record { refuted = λ z o. tied-second F S x y n e o.1; down = λ z. absurd (omega arith); up = λ z. absurd (omega arith) } }
+      record { moved = λ F S. record { refuted = λ z o. tied_second F S x y n e o.1; down = λ z. absurd (omega arith); up = λ z. absurd (omega arith) } }
 
   module _ (n : x ≡ 0 → ⊥) (m : y ≡ 0 → ⊥) where
     pub put_both : (array' owed' : List ℕ) → Put array owed array' owed' (x - 1) (y - 1) → PutPart array owed array' owed' x y 1
@@ -76,15 +76,15 @@ module _ (array owed : List ℕ) (x y : ℕ) where
 module _ (owed : List ℕ) (x y : ℕ) where
   pub link_none : x ≡ 0 → y ≡ 0 → LinkPart owed owed x y 1
   link_none e q =
-      record { moved = λ S. record { refuted = λ z. absurd (omega arith); down = λ z o. (o, tied-none S S x y e q); up = λ z o. o.0 } }
+      record { moved = λ S. record { refuted = λ z. absurd (omega arith); down = λ z o. (o, tied_none S S x y e q); up = λ z o. o.0 } }
 
   pub link_first_alone : x ≡ 0 → (y ≡ 0 → ⊥) → LinkPart owed owed x y 0
   link_first_alone e n =
-      record { moved = λ S. record { refuted = λ z o. tied-first S S x y e n o.1; down = λ z. absurd (omega arith); up = λ z. absurd (omega arith) } }
+      record { moved = λ S. record { refuted = λ z o. tied_first S S x y e n o.1; down = λ z. absurd (omega arith); up = λ z. absurd (omega arith) } }
 
   pub link_second_alone : (x ≡ 0 → ⊥) → y ≡ 0 → LinkPart owed owed x y 0
   link_second_alone n e =
-      record { moved = λ S. record { refuted = λ z o. tied-second S S x y n e o.1; down = λ z. absurd (omega arith); up = λ z. absurd (omega arith) } }
+      record { moved = λ S. record { refuted = λ z o. tied_second S S x y n e o.1; down = λ z. absurd (omega arith); up = λ z. absurd (omega arith) } }
 
   pub link_both : (x ≡ 0 → ⊥) → (y ≡ 0 → ⊥) → (owed' : List ℕ) → Linked owed owed' (x - 1) (y - 1) → LinkPart owed owed' x y 1
   link_both n m owed' l =

@@ -12,19 +12,19 @@ use Rattle.basics.proofs.Booleans.{and_both, and_left, true-false, not_so}
 use Rattle.pool.specs.Tables.{Pool, expr_word}
 use Rattle.pool.specs.Tree.{Shape, shape, same_shape}
 use Rattle.pool.specs.Unfold.{expr_at}
-use Rattle.pool.proofs.TreeLaws.{shape_same, shape-equal, lift-none}
+use Rattle.pool.proofs.TreeLaws.{shape_same, shape_equal, lift_none}
 use Rattle.occurrence.specs.Asked.{Told}
 use Rattle.occurrence.specs.Parts.{body_part}
 use Rattle.links.specs.Links.{Owes, Clear, Put, Stepped, Settled}
-use Rattle.links.proofs.LinkLaws.{take-down, take-up, clear_owes, step_quick, step_where}
+use Rattle.links.proofs.LinkLaws.{take_down, take-up, clear_owes, step_quick, step_where}
 use Rattle.compare.specs.Equal.{Quick, ByParts, trees_same, same_at, parts_same}
 use Rattle.equality.specs.Sweep.{tree_at, lifted_at, Tied, PartsTied, Owed, Moved, PutParts, LinkParts, Level}
 
 -- ---- equality as a test and as an equation
 
 module _ (p : Pool) (d c : ℕ) where
-  pub same-is : (a b : ℕ) → trees_same p d c a b ≡ true → lifted_at p d c a ≡ tree_at p b
-  same-is a b e = shape-equal _ _ e
+  pub same_is : (a b : ℕ) → trees_same p d c a b ≡ true → lifted_at p d c a ≡ tree_at p b
+  same_is a b e = shape_equal _ _ e
 
   pub is_same : (a b : ℕ) → lifted_at p d c a ≡ tree_at p b → trees_same p d c a b ≡ true
   is_same a b e = subst (λ (z : Shape). same_shape (lifted_at p d c a) z ≡ true) e (shape_same _)
@@ -34,7 +34,7 @@ module _ (p : Pool) (d c : ℕ) where
   at_is zero zero e = refl
   at_is zero (suc y) e = true-false (sym e)
   at_is (suc x) zero e = true-false (sym e)
-  at_is (suc x) (suc y) e = same-is x y e
+  at_is (suc x) (suc y) e = same_is x y e
 
   is_at : (x y : ℕ) → Tied (lifted_at p d c) (tree_at p) x y → same_at p d c x y ≡ true
   unfolding same_at Tied
@@ -73,14 +73,14 @@ module _ (p : Pool) (d c a b : ℕ) where
     quick_not e h = true-false (sym (is_same p d c a b h) ∙ quick.different e)
 
     pub quick_is : q ≡ 1 → lifted_at p d c a ≡ tree_at p b
-    quick_is e = same-is p d c a b (quick.equal e)
+    quick_is e = same_is p d c a b (quick.equal e)
 
     module _ (n : 2 ≤ q) where
       pub left : ByParts p d c a b
       left = quick.left (λ e. omega arith) (λ e. omega arith)
 
       pub tied_is : PartsTied (lifted_at p d c) (lifted_at p d (c + 1)) (tree_at p) p.words a b → lifted_at p d c a ≡ tree_at p b
-      tied_is h = same-is p d c a b (left.both ∙ is_parts h)
+      tied_is h = same_is p d c a b (left.both ∙ is_parts h)
 
       pub is_tied : lifted_at p d c a ≡ tree_at p b → PartsTied (lifted_at p d c) (lifted_at p d (c + 1)) (tree_at p) p.words a b
       is_tied h = parts_is (sym left.both ∙ is_same p d c a b h)
@@ -97,13 +97,13 @@ module _ (p : Pool) (d c : ℕ) (cur next owed mid : List ℕ) (a m : ℕ) (em :
   back : Owed p d c mid next owed → ((i : ℕ) → m ≡ suc i → F a ≡ tree_at p i) → Owed p d c cur next owed
   back o f =
       record {
-        here = take-down F (tree_at p) cur a (subst (Owes F (tree_at p)) e o.here) (λ i q. f i (em ∙ q));
+        here = take_down F (tree_at p) cur a (subst (Owes F (tree_at p)) e o.here) (λ i q. f i (em ∙ q));
         below = o.below;
         plain = o.plain;
       }
 
-  pub row-none : m ≡ 0 → Moved (Owed p d c cur next owed) (Owed p d c mid next owed) 1
-  row-none z =
+  pub row_none : m ≡ 0 → Moved (Owed p d c cur next owed) (Owed p d c mid next owed) 1
+  row_none z =
       record { refuted = λ q. absurd (omega arith); down = λ q o. back o (λ i r. absurd (let n : 0 ≡ suc i = sym z ∙ r in omega arith)); up = λ q o. forth o }
 
   module _ (nz : m ≡ 0 → ⊥) where
@@ -177,39 +177,39 @@ module _ (p : Pool) where
   abbrev S : ℕ → Shape
   S = tree_at p
 
-  none-lifted : (c x : ℕ) → lifted_at p 0 c x ≡ S x
-  none-lifted c x = ap shape (lift-none c (expr_at p x))
+  none_lifted : (c x : ℕ) → lifted_at p 0 c x ≡ S x
+  none_lifted c x = ap shape (lift_none c (expr_at p x))
 
-  tied-plain : (c x y : ℕ) → Tied (lifted_at p 0 c) S x y → Tied S S x y
+  tied_plain : (c x y : ℕ) → Tied (lifted_at p 0 c) S x y → Tied S S x y
   unfolding Tied
-  tied-plain c zero zero h = h
-  tied-plain c zero (suc y) h = h
-  tied-plain c (suc x) zero h = h
-  tied-plain c (suc x) (suc y) h = sym (none-lifted c x) ∙ h
+  tied_plain c zero zero h = h
+  tied_plain c zero (suc y) h = h
+  tied_plain c (suc x) zero h = h
+  tied_plain c (suc x) (suc y) h = sym (none_lifted c x) ∙ h
 
-  plain-tied : (c x y : ℕ) → Tied S S x y → Tied (lifted_at p 0 c) S x y
+  plain_tied : (c x y : ℕ) → Tied S S x y → Tied (lifted_at p 0 c) S x y
   unfolding Tied
-  plain-tied c zero zero h = h
-  plain-tied c zero (suc y) h = h
-  plain-tied c (suc x) zero h = h
-  plain-tied c (suc x) (suc y) h = none-lifted c x ∙ h
+  plain_tied c zero zero h = h
+  plain_tied c zero (suc y) h = h
+  plain_tied c (suc x) zero h = h
+  plain_tied c (suc x) (suc y) h = none_lifted c x ∙ h
 
   module _ (before mid : List ℕ) (x m : ℕ) (em : m ≡ get_or before x 0) (e : mid ≡ set before x 0) (nz : m ≡ 0 → ⊥) (q : ℕ)
       (quick : Quick (trees_same p 0 0 x (m - 1)) (ByParts p 0 0 x (m - 1)) q) where
     pub plain_quick : Stepped S before mid q
     plain_quick =
-        step_quick S before mid x m em e nz q (λ z h. quick_not p 0 0 x (m - 1) q quick z (none-lifted 0 x ∙ h))
-        (λ z. sym (none-lifted 0 x) ∙ quick_is p 0 0 x (m - 1) q quick z)
+        step_quick S before mid x m em e nz q (λ z h. quick_not p 0 0 x (m - 1) q quick z (none_lifted 0 x ∙ h))
+        (λ z. sym (none_lifted 0 x) ∙ quick_is p 0 0 x (m - 1) q quick z)
 
     pub plain_parts : 2 ≤ q → (after : List ℕ) (v : ℕ) → LinkParts p.words x (m - 1) mid after v → Stepped S before after v
     plain_parts n after v w =
         let g : Moved (Owes S S mid × PartsTied S S S p.words x (m - 1)) (Owes S S after) v = w.moved S in
         step_where S before mid x m em e nz (PartsTied S S S p.words x (m - 1))
-        (λ h. sym (none-lifted 0 x) ∙ tied_is p 0 0 x (m - 1) q quick n
-        (record { first = plain-tied 0 _ _ h.first; second = plain-tied 0 _ _ h.second; body = plain-tied (0 + 1) _ _ h.body }))
+        (λ h. sym (none_lifted 0 x) ∙ tied_is p 0 0 x (m - 1) q quick n
+        (record { first = plain_tied 0 _ _ h.first; second = plain_tied 0 _ _ h.second; body = plain_tied (0 + 1) _ _ h.body }))
         (λ h.
-        let r = is_tied p 0 0 x (m - 1) q quick n (none-lifted 0 x ∙ h) in
-        record { first = tied-plain 0 _ _ r.first; second = tied-plain 0 _ _ r.second; body = tied-plain (0 + 1) _ _ r.body })
+        let r = is_tied p 0 0 x (m - 1) q quick n (none_lifted 0 x ∙ h) in
+        record { first = tied_plain 0 _ _ r.first; second = tied_plain 0 _ _ r.second; body = tied_plain (0 + 1) _ _ r.body })
         after v (λ z o h. g.refuted z (o, h)) (λ z o. g.down z o) (λ z o h. g.up z (o, h))
 
 -- ---- the answer
@@ -219,7 +219,7 @@ pub told_swept : (p : Pool) (d a b : ℕ) (cur next owed cur₁ owed₁ owed₂ 
 told_swept p d a b cur next owed cur₁ owed₁ owed₂ c₁ c₂ c₃ put v w one s mv =
     record {
       no = λ z. not_so _ (λ e.
-          let r = put.up (lifted_at p d 0) (tree_at p) (clear_owes _ _ cur c₁) (clear_owes _ _ owed c₃) (same-is p d 0 a b e) in
+          let r = put.up (lifted_at p d 0) (tree_at p) (clear_owes _ _ cur c₁) (clear_owes _ _ owed c₃) (same_is p d 0 a b e) in
           s.refuted z (mv.up one (record { here = r.0; below = clear_owes _ _ next c₂; plain = r.1 })));
       yes = λ z.
           let o : Owed p d 0 cur₁ next owed₁ = mv.down one (s.holds z) in
@@ -230,8 +230,8 @@ told_swept p d a b cur next owed cur₁ owed₁ owed₂ c₁ c₂ c₃ put v w o
 
 module _ (p : Pool) (d c : ℕ) (Start : Type 0) (cur next owed : List ℕ) (down : Owed p d c cur next owed → Start) (up : Start → Owed p d c cur next owed)
     (cur₁ next₁ owed₁ : List ℕ) (v : ℕ) (l₁ : Level p d c cur next owed cur₁ next₁ owed₁ v) where
-  pub stop-one : (End : Type 0) → (v ≡ 1 → ⊥) → Moved Start End v
-  stop-one End n = loop_stops Start (Owed p d c cur next owed) down up (Owed p d c cur₁ next₁ owed₁) End v l₁.moved n
+  pub stop_one : (End : Type 0) → (v ≡ 1 → ⊥) → Moved Start End v
+  stop_one End n = loop_stops Start (Owed p d c cur next owed) down up (Owed p d c cur₁ next₁ owed₁) End v l₁.moved n
 
   module _ (e₁ : v ≡ 1) (cur₂ next₂ owed₂ : List ℕ) (w : ℕ) (l₂ : Level p d (c + 1) next₁ cur₁ owed₁ next₂ cur₂ owed₂ w) where
     down₁ : Owed p d (c + 1) next₁ cur₁ owed₁ → Start
@@ -240,8 +240,8 @@ module _ (p : Pool) (d c : ℕ) (Start : Type 0) (cur next owed : List ℕ) (dow
     up₁ : Start → Owed p d (c + 1) next₁ cur₁ owed₁
     up₁ s = level_on p d c cur₁ next₁ owed₁ (l₁.clear e₁) (l₁.moved.up e₁ (up s))
 
-    pub stop-two : (End : Type 0) → (w ≡ 1 → ⊥) → Moved Start End w
-    stop-two End n = loop_stops Start (Owed p d (c + 1) next₁ cur₁ owed₁) down₁ up₁ (Owed p d (c + 1) next₂ cur₂ owed₂) End w l₂.moved n
+    pub stop_two : (End : Type 0) → (w ≡ 1 → ⊥) → Moved Start End w
+    stop_two End n = loop_stops Start (Owed p d (c + 1) next₁ cur₁ owed₁) down₁ up₁ (Owed p d (c + 1) next₂ cur₂ owed₂) End w l₂.moved n
 
     pub two_down : w ≡ 1 → Owed p d (c + 2) cur₂ next₂ owed₂ → Start
     two_down e o = down₁ (l₂.moved.down e (level_back p d (c + 1) next₂ cur₂ owed₂ (l₂.clear e) (two_back p d c cur₂ next₂ owed₂ o)))
@@ -258,12 +258,12 @@ pub levels_end : (p : Pool) (d c : ℕ) (Start : Type 0) (cur next owed : List �
 levels_end p d c Start cur next owed down up c₁ c₂ =
     record { refuted = λ e. absurd (omega arith); down = λ e o. down (level_plain p d c cur next owed c₁ c₂ o); up = λ e s. (up s).plain }
 
-pub told-stopped : (p : Pool) (d a b : ℕ) (cur next owed cur₁ owed₁ : List ℕ) → Clear cur → Clear next → Clear owed → Put cur owed cur₁ owed₁ a b
+pub told_stopped : (p : Pool) (d a b : ℕ) (cur next owed cur₁ owed₁ : List ℕ) → Clear cur → Clear next → Clear owed → Put cur owed cur₁ owed₁ a b
     → (End : Type 0) (v : ℕ) → Moved (Owed p d 0 cur₁ next owed₁) End v → (v ≡ 1 → ⊥) → Told (trees_same p d 0 a b) v
-told-stopped p d a b cur next owed cur₁ owed₁ c₁ c₂ c₃ put End v mv n =
+told_stopped p d a b cur next owed cur₁ owed₁ c₁ c₂ c₃ put End v mv n =
     record {
       no = λ z. not_so _ (λ e.
-          let r = put.up (lifted_at p d 0) (tree_at p) (clear_owes _ _ cur c₁) (clear_owes _ _ owed c₃) (same-is p d 0 a b e) in
+          let r = put.up (lifted_at p d 0) (tree_at p) (clear_owes _ _ cur c₁) (clear_owes _ _ owed c₃) (same_is p d 0 a b e) in
           mv.refuted z (record { here = r.0; below = clear_owes _ _ next c₂; plain = r.1 }));
       yes = λ z. absurd (n z);
     }

@@ -19,17 +19,17 @@ pub kind_is : (ws : List ℕ) (r k : ℕ) (f : Fields) → f ≡ fields_of ws r 
 kind_is ws r k f e q = sym (ap (λ (g : Fields). g.kind) e) ∙ q
 
 -- ten and above
-pub expr-none : (k : ℕ) → (k ≡ 0 → ⊥) → (k ≡ 1 → ⊥) → (k ≡ 2 → ⊥) → (k ≡ 3 → ⊥) → (k ≡ 4 → ⊥) → (k ≡ 5 → ⊥) → (k ≡ 6 → ⊥)
+pub expr_none : (k : ℕ) → (k ≡ 0 → ⊥) → (k ≡ 1 → ⊥) → (k ≡ 2 → ⊥) → (k ≡ 3 → ⊥) → (k ≡ 4 → ⊥) → (k ≡ 5 → ⊥) → (k ≡ 6 → ⊥)
     → (k ≡ 7 → ⊥) → (k ≡ 8 → ⊥) → (k ≡ 9 → ⊥) → expr_kind k ≡ noExprᵏ
 unfolding expr_kind
-expr-none zero a b c d e f g h i j = absurd (a refl)
-expr-none (suc zero) a b c d e f g h i j = absurd (b refl)
-expr-none (suc (suc zero)) a b c d e f g h i j = absurd (c refl)
-expr-none (suc (suc (suc zero))) a b c d e f g h i j = absurd (d refl)
-expr-none (suc (suc (suc (suc zero)))) a b c d e f g h i j = absurd (e refl)
-expr-none (suc (suc (suc (suc (suc zero))))) a b c d e f g h i j = absurd (f refl)
-expr-none (suc (suc (suc (suc (suc (suc zero)))))) a b c d e f g h i j = absurd (g refl)
-expr-none (suc (suc (suc (suc (suc (suc (suc zero))))))) a b c d e f g h i j = absurd (h refl)
-expr-none (suc (suc (suc (suc (suc (suc (suc (suc zero)))))))) a b c d e f g h i j = absurd (i refl)
-expr-none (suc (suc (suc (suc (suc (suc (suc (suc (suc zero))))))))) a b c d e f g h i j = absurd (j refl)
-expr-none (suc (suc (suc (suc (suc (suc (suc (suc (suc (suc k)))))))))) a b c d e f g h i j = refl
+expr_none zero a b c d e f g h i j = absurd (a refl)
+expr_none (suc zero) a b c d e f g h i j = absurd (b refl)
+expr_none (suc (suc zero)) a b c d e f g h i j = absurd (c refl)
+expr_none (suc (suc (suc zero))) a b c d e f g h i j = absurd (d refl)
+expr_none (suc (suc (suc (suc zero)))) a b c d e f g h i j = absurd (e refl)
+expr_none (suc (suc (suc (suc (suc zero))))) a b c d e f g h i j = absurd (f refl)
+expr_none (suc (suc (suc (suc (suc (suc zero)))))) a b c d e f g h i j = absurd (g refl)
+expr_none (suc (suc (suc (suc (suc (suc (suc zero))))))) a b c d e f g h i j = absurd (h refl)
+expr_none (suc (suc (suc (suc (suc (suc (suc (suc zero)))))))) a b c d e f g h i j = absurd (i refl)
+expr_none (suc (suc (suc (suc (suc (suc (suc (suc (suc zero))))))))) a b c d e f g h i j = absurd (j refl)
+expr_none (suc (suc (suc (suc (suc (suc (suc (suc (suc (suc k)))))))))) a b c d e f g h i j = refl

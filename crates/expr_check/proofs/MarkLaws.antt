@@ -30,8 +30,8 @@ nat_marked p marks strings a m u e k q = by_row (ltb a strings) refl
 
 -- the scan of the expressions: `here` is whether it stops at row r since that is a natural, and strings are not marked
 module _ (p : Pool) (marks : List ℕ) (r kind : ℕ) (marked here : Bool) (ek : kind ≡ expr_word p.words r 0) (eh : here ≡ not marked && eqb kind 8) where
-  pub natural-here : here ≡ true → (marked ≡ false → expr_word p.words r 0 ≡ 8 → ⊥) → ⊥
-  natural-here h n =
+  pub natural_here : here ≡ true → (marked ≡ false → expr_word p.words r 0 ≡ 8 → ⊥) → ⊥
+  natural_here h n =
       let q = sym eh ∙ h in
       n (not-true marked (and_left (not marked) _ q)) (sym ek ∙ eqb-true kind 8 (and_right (not marked) _ q))
 

@@ -9,7 +9,7 @@ use lib.ListN.{length}
 use lib.Dec.{ltb}
 use borrow.Author.Tests.{lt-ltb, le-ltb, ltb-false}
 use Rattle.document.specs.Rows.{fault, counts_ok, Accepted}
-use Rattle.document.proofs.Faults.{fault_bound, accepted-counts, accepted-sound}
+use Rattle.document.proofs.Faults.{fault_bound, accepted_counts, accepted_sound}
 use Rattle.layout.specs.declared.cursor.Cursor.{Cursor}
 use Rattle.layout.specs.declared.Counts.{Counts}
 use Rattle.layout.specs.declared.Laid.{Laid}
@@ -22,7 +22,7 @@ use Rattle.layout.specs.Listing.{bytes_of, broken_places, lines, longest_row, te
 use Rattle.layout.specs.Call.{counts_of, untouched, listed, doc_of, outcome}
 use Rattle.layout.specs.Contract.{Emitteds, Given, Room, LaidOut, admission, counted, reported}
 use Rattle.layout.proofs.Painting.{length-paint}
-use Rattle.layout.proofs.Pieces.{run-position}
+use Rattle.layout.proofs.Pieces.{run_position}
 
 -- ---- what the cursor has counted
 
@@ -43,22 +43,22 @@ longest_least n (newlineᵖ b k ∷ ps) = omega arith
 longest_least n (testᵖ b ∷ ps) = longest_least n ps
 
 -- the row that holds the cursor has n bytes, and is counted
-run-longest : (w : ℕ) (c : Cursor) (n : ℕ) (ps : List Piece) → c.end + n ≡ c.position + w → n ≤ c.longest → (run w c ps).longest ≡ max c.longest (longest_row n ps)
+run_longest : (w : ℕ) (c : Cursor) (n : ℕ) (ps : List Piece) → c.end + n ≡ c.position + w → n ≤ c.longest → (run w c ps).longest ≡ max c.longest (longest_row n ps)
 unfolding run longest_row
-run-longest w c n [] e h = omega arith
-run-longest w c n (textᵖ s ∷ ps) e h =
-    let r = run-longest w (after w c (textᵖ s)) (n + length s) ps (omega arith) (omega arith) in let g = longest_least (n + length s) ps in omega arith
-run-longest w c n (blankᵖ k ∷ ps) e h =
-    let r = run-longest w (after w c (blankᵖ k)) (n + k) ps (omega arith) (omega arith) in let g = longest_least (n + k) ps in omega arith
-run-longest w c n (newlineᵖ b k ∷ ps) e h =
-    let r = run-longest w (after w c (newlineᵖ b k)) k ps (omega arith) (omega arith) in let g = longest_least k ps in omega arith
-run-longest w c n (testᵖ b ∷ ps) e h = run-longest w (after w c (testᵖ b)) n ps e h
+run_longest w c n [] e h = omega arith
+run_longest w c n (textᵖ s ∷ ps) e h =
+    let r = run_longest w (after w c (textᵖ s)) (n + length s) ps (omega arith) (omega arith) in let g = longest_least (n + length s) ps in omega arith
+run_longest w c n (blankᵖ k ∷ ps) e h =
+    let r = run_longest w (after w c (blankᵖ k)) (n + k) ps (omega arith) (omega arith) in let g = longest_least (n + k) ps in omega arith
+run_longest w c n (newlineᵖ b k ∷ ps) e h =
+    let r = run_longest w (after w c (newlineᵖ b k)) k ps (omega arith) (omega arith) in let g = longest_least k ps in omega arith
+run_longest w c n (testᵖ b ∷ ps) e h = run_longest w (after w c (testᵖ b)) n ps e h
 
 -- ---- `report`
 
 module _ (v : Cursor) (count total : ℕ) (l : List ℕ) where
-  pub reported-short : length l < v.position → Listing ≡ reported v count total l
-  reported-short h = sym (rw (lt-ltb (length l) v.position h))
+  pub reported_short : length l < v.position → Listing ≡ reported v count total l
+  reported_short h = sym (rw (lt-ltb (length l) v.position h))
 
   pub reported-done : v.position ≤ length l → Done (counted v count total) ≡ reported v count total l
   reported-done h = sym (rw (le-ltb (length l) v.position h))
@@ -66,60 +66,60 @@ module _ (v : Cursor) (count total : ℕ) (l : List ℕ) where
 -- ---- `layout_accepted`
 
 module _ (rows : List ℕ) (count : ℕ) (texts : List ℕ) (total width : ℕ) (accepted : Accepted rows count texts total) (narrow : width ≤ 65535) where
-  pub accepted-given : Given rows texts width total count
-  accepted-given =
-      let k = accepted-counts accepted in
-      record { valid = (accepted-sound accepted).valid; long = k.long; few = k.few; size = k.within; small = k.small; narrow = narrow }
+  pub accepted_given : Given rows texts width total count
+  accepted_given =
+      let k = accepted_counts accepted in
+      record { valid = (accepted_sound accepted).valid; long = k.long; few = k.few; size = k.within; small = k.small; narrow = narrow }
 
   pub whole_room : Room rows texts (count - 1) width 0 0 (start width)
   whole_room =
-      let k = accepted-counts accepted in
+      let k = accepted_counts accepted in
       let p = k.pos in
       let f = k.few in
-      let l = (accepted-sound accepted).last in
+      let l = (accepted_sound accepted).last in
       record {
         total = total;
         count = count;
-        given = accepted-given;
+        given = accepted_given;
         below = omega arith;
         steady = omega arith;
-        position-room = omega arith;
-        nest-room = omega arith;
-        next-room = omega arith;
+        position_room = omega arith;
+        nest_room = omega arith;
+        next_room = omega arith;
         count_room = omega arith;
       }
 
   pub whole_emitted : (v : Cursor) (l l' : List ℕ) → LaidOut rows texts (count - 1) width 0 false 0 (start width) v l l'
       → Emitteds width (pieces width (doc_of rows count texts)) (start width) v l l'
   unfolding pieces
-  whole_emitted v l l' laid = laid.laid count (let p = (accepted-counts accepted).pos in omega arith)
+  whole_emitted v l l' laid = laid.laid count (let p = (accepted_counts accepted).pos in omega arith)
 
 -- once all pieces are emitted, what is reported is what is listed
 module _ (width : ℕ) (ps : List Piece) (v : Cursor) (l l' : List ℕ) (emitted : Emitteds width ps (start width) v l l') (count total : ℕ) where
-  position-is : v.position ≡ length (bytes_of ps)
-  position-is = ap (λ (x : Cursor). x.position) emitted.cursor ∙ run-position width (start width) ps ∙ zero-add (length (bytes_of ps))
+  position_is : v.position ≡ length (bytes_of ps)
+  position_is = ap (λ (x : Cursor). x.position) emitted.cursor ∙ run_position width (start width) ps ∙ zero-add (length (bytes_of ps))
 
-  length-is : length l' ≡ length l
-  length-is = ap length emitted.bytes ∙ length-paint l 0 (bytes_of ps)
+  length_is : length l' ≡ length l
+  length_is = ap length emitted.bytes ∙ length-paint l 0 (bytes_of ps)
 
   counts_are : counted v count total ≡ counts_of count total ps
   counts_are =
       let k = run_lines_tests width (start width) ps in
-      let a = position-is in
+      let a = position_is in
       let n : v.lines ≡ lines ps = ap (λ (x : Cursor). x.lines) emitted.cursor ∙ k.0 ∙ omega arith in
       let o : v.longest ≡ longest_row 0 ps =
-      ap (λ (x : Cursor). x.longest) emitted.cursor ∙ run-longest width (start width) 0 ps (omega arith) (omega arith) ∙ omega arith in
+      ap (λ (x : Cursor). x.longest) emitted.cursor ∙ run_longest width (start width) 0 ps (omega arith) (omega arith) ∙ omega arith in
       let t : v.tests ≡ tests_in ps = ap (λ (x : Cursor). x.tests) emitted.cursor ∙ k.1 ∙ zero-add (tests_in ps) in
       rw (n, o, t, a)
 
-  answer-is : reported v count total l' ≡ cond (ltb (length l) (length (bytes_of ps))) Listing (Done (counts_of count total ps))
-  answer-is =
-      ap₂ (λ (x y : ℕ). cond (ltb x y) Listing (Done (counted v count total))) length-is position-is
+  answer_is : reported v count total l' ≡ cond (ltb (length l) (length (bytes_of ps))) Listing (Done (counts_of count total ps))
+  answer_is =
+      ap₂ (λ (x y : ℕ). cond (ltb x y) Listing (Done (counted v count total))) length_is position_is
       ∙ ap (λ (x : Counts). cond (ltb (length l) (length (bytes_of ps))) Listing (Done x)) counts_are
 
   pub reported-listed : (a : Laid) → a ≡ reported v count total l' → record { answer = a; listing = l' } ≡ listed count total ps l
   unfolding listed
-  reported-listed a e = ap₂ (λ (x : Laid) (y : List ℕ). record { answer = x; listing = y }) (e ∙ answer-is) emitted.bytes
+  reported-listed a e = ap₂ (λ (x : Laid) (y : List ℕ). record { answer = x; listing = y }) (e ∙ answer_is) emitted.bytes
 
 -- ---- `check_given`, `layout`
 
@@ -143,24 +143,24 @@ module _ (rows : List ℕ) (count : ℕ) (texts : List ℕ) (total width : ℕ) 
     unfolding admission
     admission-fault r e h = sym (rw (ok, ← e, lt-ltb r count h))
 
-    pub no-fault : (r : ℕ) → r ≡ fault rows total count → count ≤ r → fault rows total count ≡ count
-    no-fault r e h = let b = fault_bound rows total count in omega arith
+    pub no_fault : (r : ℕ) → r ≡ fault rows total count → count ≤ r → fault rows total count ≡ count
+    no_fault r e h = let b = fault_bound rows total count in omega arith
 
     module _ (good : fault rows total count ≡ count) where
       whole_is : ltb (fault rows total count) count ≡ false
       whole_is = let m : count ≤ fault rows total count = omega arith in le-ltb (fault rows total count) count m
 
-      pub admission-width : 65535 < width → admissions.Width ≡ admission rows count texts total width
+      pub admission_width : 65535 < width → admissions.Width ≡ admission rows count texts total width
       unfolding admission
-      admission-width h = sym (rw (ok, whole_is, lt-ltb 65535 width h))
+      admission_width h = sym (rw (ok, whole_is, lt-ltb 65535 width h))
 
-      pub admission-none : width ≤ 65535 → admissions.Admitted ≡ admission rows count texts total width
+      pub admission_none : width ≤ 65535 → admissions.Admitted ≡ admission rows count texts total width
       unfolding admission
-      admission-none h = sym (rw (ok, whole_is, le-ltb 65535 width h))
+      admission_none h = sym (rw (ok, whole_is, le-ltb 65535 width h))
 
-      pub answer-listed : (l : List ℕ) → width ≤ 65535 → listed count total (pieces width (doc_of rows count texts)) l ≡ outcome rows count texts total width l
+      pub answer_listed : (l : List ℕ) → width ≤ 65535 → listed count total (pieces width (doc_of rows count texts)) l ≡ outcome rows count texts total width l
       unfolding outcome
-      answer-listed l h = sym (rw (ok, whole_is, le-ltb 65535 width h))
+      answer_listed l h = sym (rw (ok, whole_is, le-ltb 65535 width h))
 
   pub admission_means : Admits rows count texts total width (admission rows count texts total width)
   unfolding admission outcome
@@ -173,7 +173,7 @@ module _ (rows : List ℕ) (count : ℕ) (texts : List ℕ) (total width : ℕ) 
       by true true e p q r = λ l. sym (rw (p, q))
       by true false true p q r = λ l. sym (rw (p, q, r))
       by true false false p q r =
-          (record { counts = p; faultless = no-fault p (fault rows total count) refl (ltb-false _ _ q) }, ltb-false _ _ r)
+          (record { counts = p; faultless = no_fault p (fault rows total count) refl (ltb-false _ _ q) }, ltb-false _ _ r)
 
   -- of what `check_given` gave, once it is known which case that is
   pub means_of : {v a : Admission} → v ≡ a → v ≡ admission rows count texts total width → Admits rows count texts total width a

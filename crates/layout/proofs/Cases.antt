@@ -8,7 +8,7 @@ use lib.ListN.{length, take, drop, length-take}
 use lib.Dec.{leb}
 use Rattle.document.specs.Doc.{Doc, group, has_break, first_break, through}
 use Rattle.document.specs.Rows.{word, left_of, node, doc_at, Valid}
-use Rattle.document.proofs.Words.{kept, text-within, join_right, join-count, blank-small, nest_amount, has_child, wrapped-count, sized}
+use Rattle.document.proofs.Words.{kept, text_within, join_right, join_count, blank_small, nest_amount, has_child, wrapped_count, sized}
 use Rattle.layout.specs.declared.cursor.Cursor.{Cursor}
 use Rattle.layout.specs.Layout.{Piece, textᵖ, blankᵖ, newlineᵖ, testᵖ, placed, after, run, fits, layout}
 use Rattle.layout.specs.Contract.{TextRoom, BreakRoom, text_of, Steady, Emitted, Emitteds, Room, LaidOut}
@@ -23,8 +23,8 @@ doc_kind rows texts r k e P g (suc f) h = subst (λ (x : ℕ). P (node rows text
 
 -- ---- one piece, as `lay_text` and `lay_break` emit it
 
-pub place-flat : (w k j n : ℕ) (flat : Bool) (c v : Cursor) (l l' : List ℕ) → flat ≡ true → j ≡ k → Emitted w (blankᵖ j) c v l l' → Emitted w (placed flat k n) c v l l'
-place-flat w k j n flat c v l l' e q a =
+pub place_flat : (w k j n : ℕ) (flat : Bool) (c v : Cursor) (l l' : List ℕ) → flat ≡ true → j ≡ k → Emitted w (blankᵖ j) c v l l' → Emitted w (placed flat k n) c v l l'
+place_flat w k j n flat c v l l' e q a =
     subst (λ (b : Bool). Emitted w (placed b k n) c v l l') (sym e) (subst (λ (x : ℕ). Emitted w (blankᵖ x) c v l l') q a)
 
 pub place_broken : (w k n : ℕ) (flat : Bool) (c v : Cursor) (l l' : List ℕ) → flat ≡ false → Emitted w (newlineᵖ 0 n) c v l l' → Emitted w (placed flat k n) c v l l'
@@ -47,10 +47,10 @@ module _ {rows texts : List ℕ} {r w n next : ℕ} {c : Cursor} (room : Room ro
   abbrev valid : Valid rows room.total room.count
   valid = room.given.valid
 
-  laid-piece : (flat : Bool) (p : Piece) (v : Cursor) (l l' : List ℕ) → Emitted w p c v l l' → Steady w (after w c p) → (after w c
+  laid_piece : (flat : Bool) (p : Piece) (v : Cursor) (l l' : List ℕ) → Emitted w p c v l l' → Steady w (after w c p) → (after w c
       p).position ≤ c.position + 8589934592 → (after w c p).lines + (after w c p).tests ≤ c.lines + c.tests + 1
       → word rows r 3 ≡ 1 → ((f : ℕ) → r < f → layout w (doc_at rows texts f r) n flat next c ≡ p ∷ []) → LaidOut rows texts r w n flat next c v l l'
-  laid-piece flat p v l l' a s b t o g =
+  laid_piece flat p v l l' a s b t o g =
       let at = ap (λ (x : Cursor). x.position) a.cursor in
       let end = ap (λ (x : Cursor). x.end) a.cursor in
       let lines = ap (λ (x : Cursor). x.lines) a.cursor in
@@ -70,49 +70,49 @@ module _ {rows texts : List ℕ} {r w n next : ℕ} {c : Cursor} (room : Room ro
 
   -- ---- texts
 
-  text-small : word rows r 0 ≡ 0 → word rows r 2 ≤ 65536
-  text-small e = let t = text-within rows total count valid r room.below e in let s = room.given.small in omega arith
+  text_small : word rows r 0 ≡ 0 → word rows r 2 ≤ 65536
+  text_small e = let t = text_within rows total count valid r room.below e in let s = room.given.small in omega arith
 
   pub text_asks : word rows r 0 ≡ 0 → TextRoom rows texts r w c
   text_asks e =
-      let t = text-within rows total count valid r room.below e in
+      let t = text_within rows total count valid r room.below e in
       let s = room.given.size in
-      let z = text-small e in
-      let p = room.position-room in
+      let z = text_small e in
+      let p = room.position_room in
       let q = room.given.narrow in
       record { row = row_inside; steady = room.steady; inside = omega arith; room = omega arith }
 
-  pub laid-text : (flat : Bool) (v : Cursor) (l l' : List ℕ) → word rows r 0 ≡ 0 → Emitted w (textᵖ (text_of rows texts r)) c v l l' → LaidOut rows texts r w n flat next c v l l'
+  pub laid_text : (flat : Bool) (v : Cursor) (l l' : List ℕ) → word rows r 0 ≡ 0 → Emitted w (textᵖ (text_of rows texts r)) c v l l' → LaidOut rows texts r w n flat next c v l l'
   unfolding node layout
-  laid-text flat v l l' e a =
+  laid_text flat v l l' e a =
       let s : List ℕ = text_of rows texts r in
       let st = room.steady in
-      let z = text-small e in
+      let z = text_small e in
       let t = length-take (word rows r 2) (drop (word rows r 1) texts) in
-      laid-piece flat (textᵖ s) v l l' a (omega arith) (omega arith) (omega arith) (kept rows total count valid r room.below 0 e).measures.count
+      laid_piece flat (textᵖ s) v l l' a (omega arith) (omega arith) (omega arith) (kept rows total count valid r room.below 0 e).measures.count
       (doc_kind rows texts r 0 e (λ d. layout w d n flat next c ≡ textᵖ s ∷ []) (λ f h. refl))
 
   -- ---- breaks
 
   pub break_asks : word rows r 0 ≡ 2 → BreakRoom rows r w n c
   break_asks e =
-      let z = blank-small rows total count valid r room.below e in
-      let p = room.position-room in
-      let q = room.nest-room in
+      let z = blank_small rows total count valid r room.below e in
+      let p = room.position_room in
+      let q = room.nest_room in
       let o = room.given.narrow in
       let m = room.count_room in
       record { row = row_inside; steady = room.steady; blank = omega arith; newline = omega arith; line = omega arith }
 
-  pub laid-break : (flat : Bool) (v : Cursor) (l l' : List ℕ) → word rows r 0 ≡ 2 → Emitted w (placed flat (word rows r 1) n) c v l l' → LaidOut rows texts r w n flat next c v l l'
+  pub laid_break : (flat : Bool) (v : Cursor) (l l' : List ℕ) → word rows r 0 ≡ 2 → Emitted w (placed flat (word rows r 1) n) c v l l' → LaidOut rows texts r w n flat next c v l l'
   unfolding node layout
-  laid-break true v l l' e a =
+  laid_break true v l l' e a =
       let st = room.steady in
-      let z = blank-small rows total count valid r room.below e in
-      laid-piece true (blankᵖ (word rows r 1)) v l l' a (omega arith) (omega arith) (omega arith) (kept rows total count valid r room.below 2 e).measures.count
+      let z = blank_small rows total count valid r room.below e in
+      laid_piece true (blankᵖ (word rows r 1)) v l l' a (omega arith) (omega arith) (omega arith) (kept rows total count valid r room.below 2 e).measures.count
       (doc_kind rows texts r 2 e (λ d. layout w d n true next c ≡ blankᵖ (word rows r 1) ∷ []) (λ f h. refl))
-  laid-break false v l l' e a =
-      let q = room.nest-room in
-      laid-piece false (newlineᵖ (word rows r 1) n) v l l' a (omega arith) (omega arith) (omega arith) (kept rows total count valid r room.below 2 e).measures.count
+  laid_break false v l l' e a =
+      let q = room.nest_room in
+      laid_piece false (newlineᵖ (word rows r 1) n) v l l' a (omega arith) (omega arith) (omega arith) (kept rows total count valid r room.below 2 e).measures.count
       (doc_kind rows texts r 2 e (λ d. layout w d n false next c ≡ newlineᵖ (word rows r 1) n ∷ []) (λ f h. refl))
 
   -- ---- joins
@@ -124,16 +124,16 @@ module _ {rows texts : List ℕ} {r w n next : ℕ} {c : Cursor} (room : Room ro
       (omega arith, omega arith)
 
   pub next_asks : word rows r 0 ≡ 1 → ((0 < r) × (r * 7 ≤ length rows)) × (next < 4611686018427387904)
-  next_asks e = let p = room.next-room in (left_asks e, omega arith)
+  next_asks e = let p = room.next_room in (left_asks e, omega arith)
 
   room_left₀ : (past : ℕ) → word rows r 0 ≡ 1 → past < next + 4294967296 → Room rows texts (left_of rows r) w n past c
   room_left₀ past e h =
       let j = join_right rows total count valid r room.below e in
-      let k = join-count rows total count valid r room.below e in
+      let k = join_count rows total count valid r room.below e in
       let b = room.below in
-      let p = room.position-room in
-      let q = room.nest-room in
-      let u = room.next-room in
+      let p = room.position_room in
+      let q = room.nest_room in
+      let u = room.next_room in
       let t = room.count_room in
       record {
         total = total;
@@ -141,23 +141,23 @@ module _ {rows texts : List ℕ} {r w n next : ℕ} {c : Cursor} (room : Room ro
         given = room.given;
         below = omega arith;
         steady = room.steady;
-        position-room = omega arith;
-        nest-room = omega arith;
-        next-room = omega arith;
+        position_room = omega arith;
+        nest_room = omega arith;
+        next_room = omega arith;
         count_room = omega arith;
       }
 
-  pub room-left : (i past : ℕ) → word rows r 0 ≡ 1 → i ≡ left_of rows r → past < next + 4294967296 → Room rows texts i w n past c
-  room-left i past e q p = subst (λ (x : ℕ). Room rows texts x w n past c) (sym q) (room_left₀ past e p)
+  pub room_left : (i past : ℕ) → word rows r 0 ≡ 1 → i ≡ left_of rows r → past < next + 4294967296 → Room rows texts i w n past c
+  room_left i past e q p = subst (λ (x : ℕ). Room rows texts x w n past c) (sym q) (room_left₀ past e p)
 
   pub room_right : (flat : Bool) (past : ℕ) (m : Cursor) (l k : List ℕ) → word rows r 0 ≡ 1 → LaidOut rows texts (left_of rows r) w n flat past c m l k → Room rows texts (r - 1) w n next m
   room_right flat past m l k e a =
       let j = join_right rows total count valid r room.below e in
-      let i = join-count rows total count valid r room.below e in
+      let i = join_count rows total count valid r room.below e in
       let b = room.below in
-      let p = room.position-room in
-      let q = room.nest-room in
-      let u = room.next-room in
+      let p = room.position_room in
+      let q = room.nest_room in
+      let u = room.next_room in
       let t = room.count_room in
       let pb = a.position_bound in
       let tb = a.count_bound in
@@ -167,18 +167,18 @@ module _ {rows texts : List ℕ} {r w n next : ℕ} {c : Cursor} (room : Room ro
         given = room.given;
         below = omega arith;
         steady = a.steady;
-        position-room = omega arith;
-        nest-room = omega arith;
-        next-room = omega arith;
+        position_room = omega arith;
+        nest_room = omega arith;
+        next_room = omega arith;
         count_room = omega arith;
       }
 
-  pub laid-join : (flat : Bool) (past : ℕ) (m v : Cursor) (l k l' : List ℕ) → word rows r 0 ≡ 1 → past ≡ through (word rows (r - 1) 6) (word rows (r - 1) 5) next
+  pub laid_join : (flat : Bool) (past : ℕ) (m v : Cursor) (l k l' : List ℕ) → word rows r 0 ≡ 1 → past ≡ through (word rows (r - 1) 6) (word rows (r - 1) 5) next
       → LaidOut rows texts (left_of rows r) w n flat past c m l k → LaidOut rows texts (r - 1) w n flat next m v k l' → LaidOut rows texts r w n flat next c v l l'
   unfolding node layout
-  laid-join flat past m v l k l' e q a b =
+  laid_join flat past m v l k l' e q a b =
       let j = join_right rows total count valid r room.below e in
-      let x = join-count rows total count valid r room.below e in
+      let x = join_count rows total count valid r room.below e in
       let rb = room.below in
       let ab = a.position_bound in
       let tb = a.count_bound in
@@ -208,16 +208,16 @@ module _ {rows texts : List ℕ} {r w n next : ℕ} {c : Cursor} (room : Room ro
     pub child_below : 0 < r
     child_below = has_child rows total count valid r room.below kind e
 
-    room-under : (n' : ℕ) (c' : Cursor) → n' ≤ n + 64 → c'.position ≡ c.position → c'.end ≡ c.end
+    room_under : (n' : ℕ) (c' : Cursor) → n' ≤ n + 64 → c'.position ≡ c.position → c'.end ≡ c.end
         → c'.lines + c'.tests ≤ c.lines + c.tests + 1 → Room rows texts (r - 1) w n' next c'
-    room-under n' c' hn hp he ht =
+    room_under n' c' hn hp he ht =
         let o = child_below in
-        let k = wrapped-count rows total count valid r room.below kind e in
+        let k = wrapped_count rows total count valid r room.below kind e in
         let b = room.below in
         let s = room.steady in
-        let p = room.position-room in
-        let q = room.nest-room in
-        let u = room.next-room in
+        let p = room.position_room in
+        let q = room.nest_room in
+        let u = room.next_room in
         let t = room.count_room in
         record {
           total = total;
@@ -225,9 +225,9 @@ module _ {rows texts : List ℕ} {r w n next : ℕ} {c : Cursor} (room : Room ro
           given = room.given;
           below = omega arith;
           steady = omega arith;
-          position-room = omega arith;
-          nest-room = omega arith;
-          next-room = omega arith;
+          position_room = omega arith;
+          nest_room = omega arith;
+          next_room = omega arith;
           count_room = omega arith;
         }
 
@@ -237,7 +237,7 @@ module _ {rows texts : List ℕ} {r w n next : ℕ} {c : Cursor} (room : Room ro
         → LaidOut rows texts (r - 1) w n' flat' next c' v l l' → LaidOut rows texts r w n flat next c v l l'
     laid-under n' flat flat' c' v l l' hp ht g a =
         let o = child_below in
-        let k = wrapped-count rows total count valid r room.below kind e in
+        let k = wrapped_count rows total count valid r room.below kind e in
         let pb = a.position_bound in
         let tb = a.count_bound in
         record {
@@ -249,33 +249,33 @@ module _ {rows texts : List ℕ} {r w n next : ℕ} {c : Cursor} (room : Room ro
           count_bound = omega arith;
         }
 
-  pub room-nest : (i : ℕ) → word rows r 0 ≡ 3 → i ≡ word rows r 1 → Room rows texts (r - 1) w (n + i) next c
-  room-nest i e q = let m = nest_amount rows total count valid r room.below e in room-under 0 e (n + i) c (omega arith) refl refl (omega arith)
+  pub room_nest : (i : ℕ) → word rows r 0 ≡ 3 → i ≡ word rows r 1 → Room rows texts (r - 1) w (n + i) next c
+  room_nest i e q = let m = nest_amount rows total count valid r room.below e in room_under 0 e (n + i) c (omega arith) refl refl (omega arith)
 
-  pub laid-nest : (flat : Bool) (i : ℕ) (v : Cursor) (l l' : List ℕ) → word rows r 0 ≡ 3 → i ≡ word rows r 1
+  pub laid_nest : (flat : Bool) (i : ℕ) (v : Cursor) (l l' : List ℕ) → word rows r 0 ≡ 3 → i ≡ word rows r 1
       → LaidOut rows texts (r - 1) w (n + i) flat next c v l l' → LaidOut rows texts r w n flat next c v l l'
   unfolding node layout
-  laid-nest flat i v l l' e q a =
+  laid_nest flat i v l l' e q a =
       laid-under 0 e (n + word rows r 1) flat flat c v l l' refl (omega arith) (λ f h x. x)
       (subst (λ (x : ℕ). LaidOut rows texts (r - 1) w (n + x) flat next c v l l') q a)
 
   module _ (k : ℕ) (e : word rows r 0 ≡ suc (suc (suc (suc k)))) where
-    pub room-flat : Room rows texts (r - 1) w n next c
-    room-flat = room-under (suc k) e n c (omega arith) refl refl (omega arith)
+    pub room_flat : Room rows texts (r - 1) w n next c
+    room_flat = room_under (suc k) e n c (omega arith) refl refl (omega arith)
 
-    pub room-group : (b : Bool) → Room rows texts (r - 1) w n next (after w c (testᵖ b))
-    room-group b = room-under (suc k) e n (after w c (testᵖ b)) (omega arith) refl refl (omega arith)
+    pub room_group : (b : Bool) → Room rows texts (r - 1) w n next (after w c (testᵖ b))
+    room_group b = room_under (suc k) e n (after w c (testᵖ b)) (omega arith) refl refl (omega arith)
 
-    pub laid-flat : (flat : Bool) (v : Cursor) (l l' : List ℕ) → flat ≡ true → LaidOut rows texts (r - 1) w n true next c v l l' → LaidOut rows texts r w n flat next c v l l'
+    pub laid_flat : (flat : Bool) (v : Cursor) (l l' : List ℕ) → flat ≡ true → LaidOut rows texts (r - 1) w n true next c v l l' → LaidOut rows texts r w n flat next c v l l'
     unfolding node layout
-    laid-flat flat v l l' ft a =
+    laid_flat flat v l l' ft a =
         laid-under (suc k) e n flat true c v l l' refl (omega arith)
         (λ f h x. subst (λ (y : Bool). Emitteds w (layout w (group (doc_at rows texts f (r - 1))) n y next c) c v l l') (sym ft) x) a
 
-    pub laid-group : (flat b : Bool) (i : ℕ) (v : Cursor) (l l' : List ℕ) → flat ≡ false → i ≡ word rows r 4 → b ≡ leb (c.position + i + next) c.end
+    pub laid_group : (flat b : Bool) (i : ℕ) (v : Cursor) (l l' : List ℕ) → flat ≡ false → i ≡ word rows r 4 → b ≡ leb (c.position + i + next) c.end
         → LaidOut rows texts (r - 1) w n b next (after w c (testᵖ b)) v l l' → LaidOut rows texts r w n flat next c v l l'
     unfolding node layout
-    laid-group flat b i v l l' ft y q a =
+    laid_group flat b i v l l' ft y q a =
         let o = child_below (suc k) e in
         let bl = room.below in
         let m = (kept rows total count valid r room.below (suc (suc (suc (suc k)))) e).measures.flat in

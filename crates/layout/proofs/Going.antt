@@ -11,7 +11,7 @@ use Rattle.document.specs.Rows.{word, left_of}
 use Rattle.layout.specs.declared.cursor.Cursor.{Cursor}
 use Rattle.layout.specs.Layout.{testᵖ, after}
 use Rattle.layout.specs.Contract.{Room, LaidOut}
-use Rattle.layout.proofs.Cases.{room_right, laid-join, room-nest, laid-nest, room-flat, laid-flat, room-group, laid-group}
+use Rattle.layout.proofs.Cases.{room_right, laid_join, room_nest, laid_nest, room_flat, laid_flat, room_group, laid_group}
 
 -- `back`: to lay out the subtree of r from here on lays out that of r0 from the start
 pub record Going
@@ -26,42 +26,42 @@ going_start {rows} {texts} {r} {w} {n} {next} {c} flat l room = record { room = 
 
 module _ {rows texts : List ℕ} {r0 w nest0 : ℕ} {flat0 : Bool} {next : ℕ} {c0 : Cursor} {l0 : List ℕ} {r nest : ℕ} {flat : Bool} {c : Cursor} {l : List ℕ}
     (g : Going rows texts r0 w nest0 flat0 next c0 l0 r nest flat c l) where
-  pub going-join : (i past : ℕ) (m : Cursor) (k : List ℕ) → word rows r 0 ≡ 1 → i ≡ left_of rows r → past ≡ through (word rows (r - 1) 6) (word rows (r - 1) 5) next
+  pub going_join : (i past : ℕ) (m : Cursor) (k : List ℕ) → word rows r 0 ≡ 1 → i ≡ left_of rows r → past ≡ through (word rows (r - 1) 6) (word rows (r - 1) 5) next
       → length k ≡ length l → LaidOut rows texts i w nest flat past c m l k → Going rows texts r0 w nest0 flat0 next c0 l0 (r - 1) nest flat m k
-  going-join i past m k e q p s a =
+  going_join i past m k e q p s a =
       let a' : LaidOut rows texts (left_of rows r) w nest flat past c m l k = subst (λ (x : ℕ). LaidOut rows texts x w nest flat past c m l k) q a in
       record {
         room = room_right g.room flat past m l k e a';
         down = let d = g.down in omega arith;
         same = s ∙ g.same;
-        back = λ v l' b. g.back v l' (laid-join g.room flat past m v l k l' e p a' b);
+        back = λ v l' b. g.back v l' (laid_join g.room flat past m v l k l' e p a' b);
       }
 
-  pub going-nest : (i : ℕ) → word rows r 0 ≡ 3 → i ≡ word rows r 1 → Going rows texts r0 w nest0 flat0 next c0 l0 (r - 1) (nest + i) flat c l
-  going-nest i e q =
+  pub going_nest : (i : ℕ) → word rows r 0 ≡ 3 → i ≡ word rows r 1 → Going rows texts r0 w nest0 flat0 next c0 l0 (r - 1) (nest + i) flat c l
+  going_nest i e q =
       record {
-        room = room-nest g.room i e q;
+        room = room_nest g.room i e q;
         down = let d = g.down in omega arith;
         same = g.same;
-        back = λ v l' b. g.back v l' (laid-nest g.room flat i v l l' e q b);
+        back = λ v l' b. g.back v l' (laid_nest g.room flat i v l l' e q b);
       }
 
-  pub going-flat : (k : ℕ) → word rows r 0 ≡ suc (suc (suc (suc k))) → flat ≡ true → Going rows texts r0 w nest0 flat0 next c0 l0 (r - 1) nest flat c l
-  going-flat k e ft =
+  pub going_flat : (k : ℕ) → word rows r 0 ≡ suc (suc (suc (suc k))) → flat ≡ true → Going rows texts r0 w nest0 flat0 next c0 l0 (r - 1) nest flat c l
+  going_flat k e ft =
       record {
-        room = room-flat g.room k e;
+        room = room_flat g.room k e;
         down = let d = g.down in omega arith;
         same = g.same;
-        back = λ v l' b. g.back v l' (laid-flat g.room k e flat v l l' ft (subst (λ (x : Bool). LaidOut rows texts (r - 1) w nest x next c v l l') ft b));
+        back = λ v l' b. g.back v l' (laid_flat g.room k e flat v l l' ft (subst (λ (x : Bool). LaidOut rows texts (r - 1) w nest x next c v l l') ft b));
       }
 
-  pub going-group : (k i : ℕ) (b : Bool) (m : Cursor) → word rows r 0 ≡ suc (suc (suc (suc k))) → flat ≡ false → i ≡ word rows r 4 → b ≡ leb (c.position + i + next) c.end
+  pub going_group : (k i : ℕ) (b : Bool) (m : Cursor) → word rows r 0 ≡ suc (suc (suc (suc k))) → flat ≡ false → i ≡ word rows r 4 → b ≡ leb (c.position + i + next) c.end
       → m ≡ after w c (testᵖ b) → Going rows texts r0 w nest0 flat0 next c0 l0 (r - 1) nest b m l
-  going-group k i b m e ft q p z =
+  going_group k i b m e ft q p z =
       subst (λ (x : Cursor). Going rows texts r0 w nest0 flat0 next c0 l0 (r - 1) nest b x l) (sym z)
       (record {
-        room = room-group g.room k e b;
+        room = room_group g.room k e b;
         down = let d = g.down in omega arith;
         same = g.same;
-        back = λ v l' a. g.back v l' (laid-group g.room k e flat b i v l l' ft q p a);
+        back = λ v l' a. g.back v l' (laid_group g.room k e flat b i v l l' ft q p a);
       })

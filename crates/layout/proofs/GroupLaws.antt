@@ -67,18 +67,18 @@ tests_are_groups w d = let h = (counted w d 0 false 0 (start w) (start w) refl r
 
 -- ---- all groups
 
-length-groups : (w : ℕ) (d : Doc) (n : ℕ) (inside : Bool) (next : ℕ) (c : Cursor) → length (groups_from w d n inside next c).groups ≡ group_count d
+length_groups : (w : ℕ) (d : Doc) (n : ℕ) (inside : Bool) (next : ℕ) (c : Cursor) → length (groups_from w d n inside next c).groups ≡ group_count d
 unfolding groups_from group_count
-length-groups w (text s) n inside next c = refl
-length-groups w (join a b) n inside next c =
+length_groups w (text s) n inside next c = refl
+length_groups w (join a b) n inside next c =
     let mid = through (has_break b) (first_break b) next in
     let x = groups_from w a n inside mid c in
     length-append x.groups (groups_from w b n inside next x.cursor).groups
-    ∙ ap₂ ◌+◌ (length-groups w a n inside mid c) (length-groups w b n inside next x.cursor)
-length-groups w (break k) n inside next c = refl
-length-groups w (nest m d) n inside next c = length-groups w d (n + m) inside next c
-length-groups w (group d) n inside next c =
-    let h = length-groups w d n (inside || fits c d next) next c in omega arith
+    ∙ ap₂ ◌+◌ (length_groups w a n inside mid c) (length_groups w b n inside next x.cursor)
+length_groups w (break k) n inside next c = refl
+length_groups w (nest m d) n inside next c = length_groups w d (n + m) inside next c
+length_groups w (group d) n inside next c =
+    let h = length_groups w d n (inside || fits c d next) next c in omega arith
 
 outside_at_most : (gs : List Group) → outside gs ≤ length gs
 unfolding outside
@@ -91,7 +91,7 @@ outside_at_most (g ∷ gs) = by g.inside (outside_at_most gs)
 
 -- the definition has every group of the document, so the fit tests are at most all groups
 pub groups_are_all : (w : ℕ) (d : Doc) → length (groups_of w d) ≡ group_count d
-groups_are_all w d = length-groups w d 0 false 0 (start w)
+groups_are_all w d = length_groups w d 0 false 0 (start w)
 
 pub at_most_all_groups : (w : ℕ) (d : Doc) → fit_tests w d ≤ group_count d
 at_most_all_groups w d = subst (λ (n : ℕ). fit_tests w d ≤ n) (groups_are_all w d) (outside_at_most (groups_of w d))

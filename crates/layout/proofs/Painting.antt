@@ -31,12 +31,12 @@ paint-step (x ∷ d) (y ∷ s) zero p q = ap (λ (t : List ℕ). y ∷ t) (sym (
 paint-step (x ∷ d) (y ∷ s) (suc i) p q = ap (λ (t : List ℕ). y ∷ t) (paint-step d s i (omega arith) (omega arith))
 
 -- past the end of what is painted over
-pub paint-full : (d s : List ℕ) (i : ℕ) → length d ≤ i → paint d 0 (take i s) ≡ paint d 0 s
+pub paint_full : (d s : List ℕ) (i : ℕ) → length d ≤ i → paint d 0 (take i s) ≡ paint d 0 s
 unfolding paint
-paint-full [] s i p = refl
-paint-full (x ∷ d) s zero p = absurd (omega arith)
-paint-full (x ∷ d) [] (suc i) p = refl
-paint-full (x ∷ d) (y ∷ s) (suc i) p = ap (λ (t : List ℕ). y ∷ t) (paint-full d s i (omega arith))
+paint_full [] s i p = refl
+paint_full (x ∷ d) s zero p = absurd (omega arith)
+paint_full (x ∷ d) [] (suc i) p = refl
+paint_full (x ∷ d) (y ∷ s) (suc i) p = ap (λ (t : List ℕ). y ∷ t) (paint_full d s i (omega arith))
 
 pub paint_past : (l : List ℕ) (at : ℕ) (s : List ℕ) → length l ≤ at → paint l at s ≡ l
 unfolding paint
@@ -68,7 +68,7 @@ pub copy_turn : (d₀ s d : List ℕ) (i : ℕ) → d ≡ paint d₀ 0 (take i s
 copy_turn d₀ s d i e n p q = rw (e, add-one) (paint-step d₀ s i (omega arith) q)
 
 pub copy_full : (d₀ s d : List ℕ) (i : ℕ) → d ≡ paint d₀ 0 (take i s) → length d ≡ length d₀ → length d ≤ i → d ≡ paint d₀ 0 s
-copy_full d₀ s d i e n p = e ∙ paint-full d₀ s i (omega arith)
+copy_full d₀ s d i e n p = e ∙ paint_full d₀ s i (omega arith)
 
 pub copy_whole : (d₀ s d : List ℕ) (i : ℕ) → d ≡ paint d₀ 0 (take i s) → length s ≤ i → d ≡ paint d₀ 0 s
 copy_whole d₀ s d i e p = e ∙ ap (paint d₀ 0) (take_all i s p)

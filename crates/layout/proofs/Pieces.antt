@@ -13,18 +13,18 @@ use Rattle.layout.specs.Paint.{paint}
 use Rattle.layout.specs.Contract.{Emitted, Emitteds}
 use Rattle.layout.proofs.Painting.{paint-append}
 
-after-position : (w : ℕ) (c : Cursor) (p : Piece) → (after w c p).position ≡ c.position + length (piece_bytes p)
-after-position w c (textᵖ s) = refl
-after-position w c (blankᵖ k) = simp length-replicate
-after-position w c (newlineᵖ k n) = let h = length-replicate {A = ℕ} n 32 in omega arith
-after-position w c (testᵖ b) = sym (add-zero c.position)
+after_position : (w : ℕ) (c : Cursor) (p : Piece) → (after w c p).position ≡ c.position + length (piece_bytes p)
+after_position w c (textᵖ s) = refl
+after_position w c (blankᵖ k) = simp length-replicate
+after_position w c (newlineᵖ k n) = let h = length-replicate {A = ℕ} n 32 in omega arith
+after_position w c (testᵖ b) = sym (add-zero c.position)
 
-pub run-position : (w : ℕ) (c : Cursor) (ps : List Piece) → (run w c ps).position ≡ c.position + length (bytes_of ps)
+pub run_position : (w : ℕ) (c : Cursor) (ps : List Piece) → (run w c ps).position ≡ c.position + length (bytes_of ps)
 unfolding run bytes_of
-run-position w c [] = sym (add-zero c.position)
-run-position w c (p ∷ ps) =
-    let h = run-position w (after w c p) ps in
-    let e = after-position w c p in
+run_position w c [] = sym (add-zero c.position)
+run_position w c (p ∷ ps) =
+    let h = run_position w (after w c p) ps in
+    let e = after_position w c p in
     let l = length-append (piece_bytes p) (bytes_of ps) in
     omega arith
 
@@ -50,7 +50,7 @@ module _ (w : ℕ) where
         cursor = b.cursor ∙ ap (λ (x : Cursor). run w x qs) a.cursor ∙ sym (run-append w c ps qs);
         bytes =
             b.bytes
-            ∙ ap₂ (λ (x : List ℕ) (y : ℕ). paint x y (bytes_of qs)) a.bytes (ap (λ (x : Cursor). x.position) a.cursor ∙ run-position w c ps)
+            ∙ ap₂ (λ (x : List ℕ) (y : ℕ). paint x y (bytes_of qs)) a.bytes (ap (λ (x : Cursor). x.position) a.cursor ∙ run_position w c ps)
             ∙ paint-append l c.position (bytes_of ps) (bytes_of qs)
             ∙ ap (paint l c.position) (sym (bytes-append ps qs));
       }

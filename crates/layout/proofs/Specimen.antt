@@ -19,21 +19,21 @@ arrow : Doc
 unfolding nat
 arrow = group (join (group (join (join (join (nest 2 (group nat)) (text (32 ∷ []))) (text (226 ∷ 134 ∷ 146 ∷ []))) (break 1))) nat)
 
-one-row : bytes_of (pieces 13 arrow) ≡ 64 ∷ 78 ∷ 97 ∷ 116 ∷ 32 ∷ 226 ∷ 134 ∷ 146 ∷ 32 ∷ 64 ∷ 78 ∷ 97 ∷ 116 ∷ []
+one_row : bytes_of (pieces 13 arrow) ≡ 64 ∷ 78 ∷ 97 ∷ 116 ∷ 32 ∷ 226 ∷ 134 ∷ 146 ∷ 32 ∷ 64 ∷ 78 ∷ 97 ∷ 116 ∷ []
 unfolding arrow nat bytes_of pieces layout run flat_size first_break has_break
-one-row = refl
+one_row = refl
 
 abbrev area : List ℕ
 area = 0 ∷ 0 ∷ 0 ∷ 0 ∷ 0 ∷ 0 ∷ 0 ∷ 0 ∷ 0 ∷ 0 ∷ 0 ∷ 0 ∷ 0 ∷ 9 ∷ []
 
-two-rows : outcome (stored 0 arrow) 17 (text_bytes arrow) 12 12 area
+two_rows : outcome (stored 0 arrow) 17 (text_bytes arrow) 12 12 area
     ≡ record {
       answer = Done (record { rows = 17; text = 12; length = 13; lines = 2; longest = 8; tests = 3 });
       listing = 64 ∷ 78 ∷ 97 ∷ 116 ∷ 32 ∷ 226 ∷ 134 ∷ 146 ∷ 10 ∷ 64 ∷ 78 ∷ 97 ∷ 116 ∷ 9 ∷ [];
     }
 unfolding arrow nat bytes_of pieces layout run flat_size first_break has_break row_count stored own_row text_bytes outcome listed untouched doc_at node fault scan whole row_ok
     text_before broken_places longest_row tests_in paint
-two-rows = refl
+two_rows = refl
 
 -- `a`, newline, `b` as one text, a break, and `c`
 abbrev two_texts : Doc

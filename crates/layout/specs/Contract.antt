@@ -66,9 +66,9 @@ pub record Room (rows texts : List ℕ) (r width nest next : ℕ) (c : Cursor) :
   pub given : Given rows texts width total count
   pub below : r < count
   pub steady : Steady width c
-  pub position-room : c.position + word rows r 3 * 8589934592 ≤ 1152921504606846976
-  pub nest-room : nest + word rows r 3 * 64 ≤ 2097152
-  pub next-room : next + word rows r 3 * 4294967296 ≤ 1152921504606846976
+  pub position_room : c.position + word rows r 3 * 8589934592 ≤ 1152921504606846976
+  pub nest_room : nest + word rows r 3 * 64 ≤ 2097152
+  pub next_room : next + word rows r 3 * 4294967296 ≤ 1152921504606846976
   pub count_room : c.lines + c.tests + word rows r 3 ≤ 1152921504606846976
 
 -- the subtree of row r is laid out

@@ -13,7 +13,7 @@ use Rattle.layout.specs.Layout.{Piece, pieces}
 use Rattle.layout.specs.Listing.{bytes_of}
 use Rattle.layout.specs.Call as first
 use Rattle.layout.specs.Call.{untouched, listed, doc_of, outcome, counts_of}
-use Rattle.layout.proofs.Answers.{answer-listed}
+use Rattle.layout.proofs.Answers.{answer_listed}
 use Rattle.layout_pending.specs.declared.LaidPending.{LaidPending}
 use Rattle.layout_pending.specs.declared.LaidPending.TheVariants as answers
 use Rattle.layout_pending.specs.Call.{Outcome, before30, followed, with30, outcome_pending}
@@ -48,29 +48,29 @@ module _ (rows : List ℕ) (count : ℕ) (texts : List ℕ) (total width : ℕ) 
   of_first o e = ap (λ (x : first.Outcome). with30 count x pending area) e
 
   -- 9 and 6
-  pub answer-first : (a : Laid) → before30 a ≡ true → untouched a area ≡ outcome rows count texts total width area
+  pub answer_first : (a : Laid) → before30 a ≡ true → untouched a area ≡ outcome rows count texts total width area
       → record { answer = answers.Laid a; listing = area; pending = pending } ≡ outcome_pending rows count texts total width pending area
   unfolding untouched
-  answer-first a e h = sym (early count (untouched a area) pending area e) ∙ of_first (untouched a area) h
+  answer_first a e h = sym (early count (untouched a area) pending area e) ∙ of_first (untouched a area) h
 
   module _ (accepted : Accepted rows count texts total) (narrow : width ≤ 65535) where
     abbrev whole : first.Outcome
     whole = listed count total (pieces width (doc_of rows count texts)) area
 
-    is-first : whole ≡ outcome rows count texts total width area
-    is-first = answer-listed rows count texts total width accepted.counts accepted.faultless area narrow
+    is_first : whole ≡ outcome rows count texts total width area
+    is_first = answer_listed rows count texts total width accepted.counts accepted.faultless area narrow
 
     late_answer : before30 whole.answer ≡ false
     late_answer = listed_late count total (pieces width (doc_of rows count texts)) area
 
     pub answer_30 : length pending < count * 3
         → record { answer = answers.PendingArea; listing = area; pending = pending } ≡ outcome_pending rows count texts total width pending area
-    answer_30 h = sym (short count whole pending area late_answer h) ∙ of_first whole is-first
+    answer_30 h = sym (short count whole pending area late_answer h) ∙ of_first whole is_first
 
-    pub answer-listed-cleared : count * 3 ≤ length pending → (a : Laid) (l p : List ℕ) → record { answer = a; listing = l } ≡ whole → p ≡ replicate (length pending) 0
+    pub answer_listed_cleared : count * 3 ≤ length pending → (a : Laid) (l p : List ℕ) → record { answer = a; listing = l } ≡ whole → p ≡ replicate (length pending) 0
         → record { answer = answers.Laid a; listing = l; pending = p } ≡ outcome_pending rows count texts total width pending area
-    answer-listed-cleared h a l p e q =
-        ap₂ followed e q ∙ sym (late count whole pending area late_answer h) ∙ of_first whole is-first
+    answer_listed_cleared h a l p e q =
+        ap₂ followed e q ∙ sym (late count whole pending area late_answer h) ∙ of_first whole is_first
 
   -- ---- the two layouts agree
 

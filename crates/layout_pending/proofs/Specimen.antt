@@ -22,7 +22,7 @@ two = group (join (text (97 ∷ 98 ∷ [])) (join (break 1) (text (99 ∷ 100 �
 abbrev laid : ℕ → ℕ → ℕ → ℕ → Outcome
 laid count width words bytes = outcome_pending (stored 0 two) count (text_bytes two) 4 width (replicate words 7) (replicate bytes 7)
 
-listed-and-cleared : laid 6 4 18 7
+listed_and_cleared : laid 6 4 18 7
     ≡ record {
       answer = answers.Laid (laids.Done (record { rows = 6; text = 4; length = 5; lines = 2; longest = 2; tests = 1 }));
       listing = 97 ∷ 98 ∷ 10 ∷ 99 ∷ 100 ∷ 7 ∷ 7 ∷ [];
@@ -30,7 +30,7 @@ listed-and-cleared : laid 6 4 18 7
     }
 unfolding outcome_pending with30 outcome listed untouched stored own_row text_bytes row_count flat_size first_break has_break doc_at node fault scan whole row_ok
     text_before pieces layout run bytes_of broken_places longest_row tests_in paint
-listed-and-cleared = refl
+listed_and_cleared = refl
 
 cleared_past_the_entries : laid 6 4 20 5
     ≡ record {
@@ -52,7 +52,7 @@ unfolding outcome_pending with30 outcome listed untouched stored own_row text_by
     text_before pieces layout run bytes_of broken_places longest_row tests_in paint
 cleared_after_22 = refl
 
-one-word-short : laid 6 4 17 4
+one_word_short : laid 6 4 17 4
     ≡ record {
       answer = answers.PendingArea;
       listing = replicate 4 7;
@@ -60,9 +60,9 @@ one-word-short : laid 6 4 17 4
     }
 unfolding outcome_pending with30 outcome listed untouched stored own_row text_bytes row_count flat_size first_break has_break doc_at node fault scan whole row_ok
     text_before pieces layout run bytes_of broken_places longest_row tests_in paint
-one-word-short = refl
+one_word_short = refl
 
-width-before-pending : laid 6 65536 17 4
+width_before_pending : laid 6 65536 17 4
     ≡ record {
       answer = answers.Laid laids.Width;
       listing = replicate 4 7;
@@ -70,9 +70,9 @@ width-before-pending : laid 6 65536 17 4
     }
 unfolding outcome_pending with30 outcome listed untouched stored own_row text_bytes row_count flat_size first_break has_break doc_at node fault scan whole row_ok
     text_before pieces layout run bytes_of broken_places longest_row tests_in paint
-width-before-pending = refl
+width_before_pending = refl
 
-document-before-pending : laid 4 4 11 4
+document_before_pending : laid 4 4 11 4
     ≡ record {
       answer = answers.Laid (laids.Document 3);
       listing = replicate 4 7;
@@ -80,4 +80,4 @@ document-before-pending : laid 4 4 11 4
     }
 unfolding outcome_pending with30 outcome listed untouched stored own_row text_bytes row_count flat_size first_break has_break doc_at node fault scan whole row_ok
     text_before pieces layout run bytes_of broken_places longest_row tests_in paint
-document-before-pending = refl
+document_before_pending = refl

@@ -63,15 +63,15 @@ flat_back n false h = let e : (n * 2 + 0) % 4294967296 % 2 ≡ 0 = omega arith i
 -- ---- entries
 
 module _ (p : List ℕ) (at : ℕ) (e : Entry) where
-  entry-below : (n : ℕ) → n < at → entry_at (put_at p at e) n ≡ entry_at p n
-  entry-below n h =
+  entry_below : (n : ℕ) → n < at → entry_at (put_at p at e) n ≡ entry_at p n
+  entry_below n h =
       let a = other p (at * 3) (e.row % 2 ^ 32) ((e.nest * 2 + bit e.flat) % 2 ^ 32) (e.next % 2 ^ 32) in
       rw (a (n * 3) (omega arith), a (n * 3 + 1) (omega arith), a (n * 3 + 2) (omega arith))
 
-  stack-below : (n : ℕ) → n ≤ at → stack (put_at p at e) n ≡ stack p n
+  stack_below : (n : ℕ) → n ≤ at → stack (put_at p at e) n ≡ stack p n
   unfolding stack
-  stack-below zero h = refl
-  stack-below (suc n) h = ap₂ (λ (x : Entry) (es : List Entry). x ∷ es) (entry-below n (omega arith)) (stack-below n (omega arith))
+  stack_below zero h = refl
+  stack_below (suc n) h = ap₂ (λ (x : Entry) (es : List Entry). x ∷ es) (entry_below n (omega arith)) (stack_below n (omega arith))
 
   module _ (room : at * 3 + 3 ≤ length p) (small : Small e) where
     entry-put : entry_at (put_at p at e) at ≡ e
@@ -92,7 +92,7 @@ module _ (p : List ℕ) (at : ℕ) (e : Entry) where
     unfolding stack
     stack-put =
         ap (stack (put_at p at e)) (add-one at)
-        ∙ ap₂ (λ (x : Entry) (es : List Entry). x ∷ es) entry-put (stack-below at (omega arith))
+        ∙ ap₂ (λ (x : Entry) (es : List Entry). x ∷ es) entry-put (stack_below at (omega arith))
 
 pub length-put : (p : List ℕ) (at : ℕ) (e : Entry) → length (put_at p at e) ≡ length p
 length-put p at e = simp length-set
@@ -102,10 +102,10 @@ unfolding stack
 stack_top p zero h = absurd (omega arith)
 stack_top p (suc n) h = let e : n ≡ suc n - 1 = omega arith in ap (λ (k : ℕ). entry_at p k ∷ stack p k) e
 
-pub stack-none : (p : List ℕ) (n : ℕ) → n ≤ 0 → stack p n ≡ []
+pub stack_none : (p : List ℕ) (n : ℕ) → n ≤ 0 → stack p n ≡ []
 unfolding stack
-stack-none p zero h = refl
-stack-none p (suc n) h = absurd (omega arith)
+stack_none p zero h = refl
+stack_none p (suc n) h = absurd (omega arith)
 
 pub stack-length : (p : List ℕ) (n : ℕ) → length (stack p n) ≡ n
 unfolding stack

@@ -13,9 +13,9 @@ use Rattle.layout.specs.Contract.{Emitteds, LaidOut}
 use Rattle.layout.proofs.Painting.{paint-nil}
 use Rattle.layout_pending.specs.declared.entries.Entry.{Entry}
 use Rattle.layout_pending.specs.Contract.{entry_at, put_at, stack, left_child, right_child, whole_entry, Lends}
-use Rattle.layout_pending.proofs.StackLaws.{Small, stack-put, stack_top, stack-none, stack-length, length-put}
+use Rattle.layout_pending.proofs.StackLaws.{Small, stack-put, stack_top, stack_none, stack-length, length-put}
 use Rattle.layout_pending.proofs.Remaining.{remaining}
-use Rattle.layout_pending.proofs.Taking.{Taking, Within, AllWithin, weight, many, taken, taken_less, left-within, right_within, join_less, taken-join}
+use Rattle.layout_pending.proofs.Taking.{Taking, Within, AllWithin, weight, many, taken, taken_less, left-within, right_within, join_less, taken_join}
 
 pub record Turning (rows texts : List ℕ) (count w : ℕ) (p0 l0 p : List ℕ) (depth : ℕ) (c : Cursor) (l : List ℕ) : Type 0 where
   pub few : count ≤ 16384
@@ -34,7 +34,7 @@ module _ {rows texts : List ℕ} {count w : ℕ} {p0 : List ℕ} (lends : Lends 
       let s = lends.some in
       let n = lends.whole in
       let f = lends.given.few in
-      record { below = omega arith; nest-room = omega arith; next-room = omega arith }
+      record { below = omega arith; nest_room = omega arith; next_room = omega arith }
 
   whole_taking : Taking rows texts count w l (whole ∷ []) (start w) l
   unfolding AllWithin weight remaining pieces
@@ -47,7 +47,7 @@ module _ {rows texts : List ℕ} {count w : ℕ} {p0 : List ℕ} (lends : Lends 
         within = (whole-within, tt);
         few = omega arith;
         steady = omega arith;
-        position-room = omega arith;
+        position_room = omega arith;
         count_room = omega arith;
         same = refl;
         back = λ v l' a. subst (λ (ps : List Piece). Emitteds w ps (start w) v l l') (append-nil _) a;
@@ -72,7 +72,7 @@ module _ {rows texts : List ℕ} {count w : ℕ} {p0 : List ℕ} (lends : Lends 
       let z : p ≡ put_at p0 0 whole = q ∙ ap (put_at p0 0) a in
       let k : length p ≡ length p0 = ap length z ∙ length-put p0 0 whole in
       let es : stack p 1 ≡ whole ∷ [] =
-      ap (λ (x : List ℕ). stack x 1) z ∙ stack-put p0 0 whole (omega arith) small ∙ ap (λ (x : List Entry). whole ∷ x) (stack-none p0 0 (omega arith)) in
+      ap (λ (x : List ℕ). stack x 1) z ∙ stack-put p0 0 whole (omega arith) small ∙ ap (λ (x : List Entry). whole ∷ x) (stack_none p0 0 (omega arith)) in
       record {
         few = lends.given.few;
         room = omega arith;
@@ -90,7 +90,7 @@ pub turning_end : {rows texts : List ℕ} {count w : ℕ} {p0 l0 p : List ℕ} {
     → Turning rows texts count w p0 l0 p depth c l → depth ≤ 0 → Emitteds w (pieces w (doc_of rows count texts)) (start w) c l0 l
 unfolding remaining
 turning_end {rows} {texts} {count} {w} {p0} {l0} {p} {depth} {c} {l} g h =
-    let t : Taking rows texts count w l0 [] c l = subst (λ (x : List Entry). Taking rows texts count w l0 x c l) (stack-none p depth h) g.taking in
+    let t : Taking rows texts count w l0 [] c l = subst (λ (x : List Entry). Taking rows texts count w l0 x c l) (stack_none p depth h) g.taking in
     t.back c l (nothing_emitted w c l)
 
 -- ---- a turn
@@ -149,19 +149,19 @@ module _ {rows texts : List ℕ} {count w : ℕ} {p0 l0 p : List ℕ} {depth : �
   pub turn_taken_less : weight rows below < weight rows (stack p depth)
   turn_taken_less = subst (λ (x : List Entry). weight rows below < weight rows x) (sym stack_is) (taken_less top_taking)
 
-  fits-words : (e' : Entry) → Within rows count e' → Small e'
-  fits-words e' h =
+  fits_words : (e' : Entry) → Within rows count e' → Small e'
+  fits_words e' h =
       let f = g.few in
       let b = h.below in
-      let i = h.nest-room in
-      let j = h.next-room in
+      let i = h.nest_room in
+      let j = h.next_room in
       record { row = omega arith; nest = omega arith; next = omega arith }
 
-  nest-small : (e' x : Entry) → x ≡ e' → Within rows count e' → x.nest < 4294967296
-  nest-small e' x z h = let s = (fits-words e' h).nest in let y : x.nest ≡ e'.nest = ap (λ (i : Entry). i.nest) z in omega arith
+  nest_small : (e' x : Entry) → x ≡ e' → Within rows count e' → x.nest < 4294967296
+  nest_small e' x z h = let s = (fits_words e' h).nest in let y : x.nest ≡ e'.nest = ap (λ (i : Entry). i.nest) z in omega arith
 
   pub put_asks : (e' x : Entry) → x ≡ e' → Within rows count e' → ((depth - 1) * 3 + 3 ≤ length p) × (x.nest < 4294967296)
-  put_asks e' x z h = (top_place, nest-small e' x z h)
+  put_asks e' x z h = (top_place, nest_small e' x z h)
 
   -- another entry in its place
   module _ (e' : Entry) (h : Within rows count e') (p' : List ℕ) (x : Entry) (z : p' ≡ put_at p (depth - 1) x) (y : x ≡ e') where
@@ -177,7 +177,7 @@ module _ {rows texts : List ℕ} {count w : ℕ} {p0 l0 p : List ℕ} {depth : �
         let n : depth ≡ depth - 1 + 1 = omega arith in
         ap (λ (a : List ℕ). stack a depth) put_is
         ∙ ap (stack (put_at p (depth - 1) e')) n
-        ∙ stack-put p (depth - 1) e' top_place (fits-words e' h)
+        ∙ stack-put p (depth - 1) e' top_place (fits_words e' h)
 
     pub turn_put : {c' m : Cursor} → m ≡ c' → Taking rows texts count w l0 (e' ∷ below) c' l → Turning rows texts count w p0 l0 p' depth m l
     turn_put {c'} {m} i t =
@@ -202,10 +202,10 @@ module _ {rows texts : List ℕ} {count w : ℕ} {p0 l0 p : List ℕ} {depth : �
     abbrev both : List Entry
     both = left_child rows e ∷ right_child e ∷ below
 
-    next-room : depth * 3 + 3 ≤ length p'
-    next-room =
+    next_room : depth * 3 + 3 ≤ length p'
+    next_room =
         let some = top.some in
-        let t = taken-join top_taking kind in
+        let t = taken_join top_taking kind in
         let m = many rows t.total count t.given.valid both t.within in
         let n = stack-length p (depth - 1) in
         let f = t.few in
@@ -214,16 +214,16 @@ module _ {rows texts : List ℕ} {count w : ℕ} {p0 l0 p : List ℕ} {depth : �
         omega arith
 
     pub next_asks : (x'' : Entry) → x'' ≡ left_child rows e → (depth * 3 + 3 ≤ length p') × (x''.nest < 4294967296)
-    next_asks x'' y'' = (next-room, nest-small (left_child rows e) x'' y'' (left-within top_taking kind))
+    next_asks x'' y'' = (next_room, nest_small (left_child rows e) x'' y'' (left-within top_taking kind))
 
     module _ (p'' : List ℕ) (x'' : Entry) (z'' : p'' ≡ put_at p' depth x'') (y'' : x'' ≡ left_child rows e) where
       both_is : p'' ≡ put_at p' depth (left_child rows e)
       both_is = z'' ∙ ap (put_at p' depth) y''
 
-      both-stack : stack p'' (depth + 1) ≡ both
-      both-stack =
+      both_stack : stack p'' (depth + 1) ≡ both
+      both_stack =
           ap (λ (a : List ℕ). stack a (depth + 1)) both_is
-          ∙ stack-put p' depth (left_child rows e) next-room (fits-words (left_child rows e) (left-within top_taking kind))
+          ∙ stack-put p' depth (left_child rows e) next_room (fits_words (left_child rows e) (left-within top_taking kind))
           ∙ ap (λ (s : List Entry). left_child rows e ∷ s) (put-stack (right_child e) (right_within top_taking kind) p' x z y)
 
       pub turn_join : Turning rows texts count w p0 l0 p'' (depth + 1) c l
@@ -235,10 +235,10 @@ module _ {rows texts : List ℕ} {count w : ℕ} {p0 l0 p : List ℕ} {depth : �
             few = g.few;
             room = omega arith;
             same = j ∙ k ∙ g.same;
-            taking = subst (λ (s : List Entry). Taking rows texts count w l0 s c l) (sym both-stack) (taken-join top_taking kind);
+            taking = subst (λ (s : List Entry). Taking rows texts count w l0 s c l) (sym both_stack) (taken_join top_taking kind);
           }
 
       pub turn_join_less : weight rows (stack p'' (depth + 1)) < weight rows (stack p depth)
       turn_join_less =
-          subst (λ (s : List Entry). weight rows s < weight rows (stack p depth)) (sym both-stack)
+          subst (λ (s : List Entry). weight rows s < weight rows (stack p depth)) (sym both_stack)
           (subst (λ (s : List Entry). weight rows both < weight rows s) (sym stack_is) (join_less top_taking kind))

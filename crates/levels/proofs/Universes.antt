@@ -16,7 +16,7 @@ use Rattle.pool.specs.Tree.{Level}
 use Rattle.pool.specs.Unfold.{name_at, level_at, levels_from, list_at}
 use Rattle.pool.specs.Areas.{over}
 use Rattle.pool.proofs.RowUnfolds as rows
-use Rattle.pool.proofs.RowUnfolds.{LevelRow, is_zero, is_succ, is-max, is_imax, is_param}
+use Rattle.pool.proofs.RowUnfolds.{LevelRow, is_zero, is_succ, is_max, is_imax, is_param}
 use Rattle.pool.specs.Ready.{Ready}
 use Rattle.pieces.specs.Words.{word_bytes}
 use Rattle.pieces.specs.Docs.{◌⊹◌, quoted, G, Parenable, with_inner, under, tile, number_doc}
@@ -47,7 +47,7 @@ module _ (bs ns ws : List ℕ) (r : ℕ) where
   pub succ_below : LevelRow (over bs ns ws) r → level_word ws r 0 ≡ 1 → level_word ws r 1 < r
   succ_below (is_zero k e) q = absurd (omega arith)
   succ_below (is_succ k l e) q = l
-  succ_below (is-max k l m e) q = absurd (omega arith)
+  succ_below (is_max k l m e) q = absurd (omega arith)
   succ_below (is_imax k l m e) q = absurd (omega arith)
   succ_below (is_param k l e) q = absurd (omega arith)
 
@@ -56,7 +56,7 @@ module _ (bs ns ws : List ℕ) (r : ℕ) where
   unfolding succs_par
   succ_on (is_zero k e) q n = absurd (omega arith)
   succ_on (is_succ k l e) q n = rw (e, add-one)
-  succ_on (is-max k l m e) q n = absurd (omega arith)
+  succ_on (is_max k l m e) q n = absurd (omega arith)
   succ_on (is_imax k l m e) q n = absurd (omega arith)
   succ_on (is_param k l e) q n = absurd (omega arith)
 
@@ -65,14 +65,14 @@ module _ (bs ns ws : List ℕ) (r : ℕ) where
   unfolding succs_par
   zero_emits (is_zero k e) q outer n st h = rw e (under_most outer (number_doc n) st h)
   zero_emits (is_succ k l e) q outer n st h = absurd (omega arith)
-  zero_emits (is-max k l m e) q outer n st h = absurd (omega arith)
+  zero_emits (is_max k l m e) q outer n st h = absurd (omega arith)
   zero_emits (is_imax k l m e) q outer n st h = absurd (omega arith)
   zero_emits (is_param k l e) q outer n st h = absurd (omega arith)
 
   pub param_below : LevelRow (over bs ns ws) r → level_word ws r 0 ≡ 4 → level_word ws r 1 < N ns
   param_below (is_zero k e) q = absurd (omega arith)
   param_below (is_succ k l e) q = absurd (omega arith)
-  param_below (is-max k l m e) q = absurd (omega arith)
+  param_below (is_max k l m e) q = absurd (omega arith)
   param_below (is_imax k l m e) q = absurd (omega arith)
   param_below (is_param k l e) q = l
 
@@ -81,7 +81,7 @@ module _ (bs ns ws : List ℕ) (r : ℕ) where
   unfolding succs_par plus
   param_emits (is_zero k e) q outer st h = absurd (omega arith)
   param_emits (is_succ k l e) q outer st h = absurd (omega arith)
-  param_emits (is-max k l m e) q outer st h = absurd (omega arith)
+  param_emits (is_max k l m e) q outer st h = absurd (omega arith)
   param_emits (is_imax k l m e) q outer st h = absurd (omega arith)
   param_emits (is_param k l e) q outer st h = rw e (under_most outer (name_doc (name_at (over bs ns ws) (level_word ws r 1))) st h)
 
@@ -90,16 +90,16 @@ module _ (bs ns ws : List ℕ) (r : ℕ) where
       → (2 ≤ level_word ws r 0) × (level_word ws r 0 < 4)
   max_kind (is_zero k e) x y z = absurd (x k)
   max_kind (is_succ k l e) x y z = absurd (y k)
-  max_kind (is-max k l m e) x y z = omega arith
+  max_kind (is_max k l m e) x y z = omega arith
   max_kind (is_imax k l m e) x y z = omega arith
   max_kind (is_param k l e) x y z = absurd (z k)
 
-  pub max-below : LevelRow (over bs ns ws) r → 2 ≤ level_word ws r 0 → level_word ws r 0 < 4 → (level_word ws r 1 < r) × (level_word ws r 2 < r)
-  max-below (is_zero k e) x y = absurd (omega arith)
-  max-below (is_succ k l e) x y = absurd (omega arith)
-  max-below (is-max k l m e) x y = (l, m)
-  max-below (is_imax k l m e) x y = (l, m)
-  max-below (is_param k l e) x y = absurd (omega arith)
+  pub max_below : LevelRow (over bs ns ws) r → 2 ≤ level_word ws r 0 → level_word ws r 0 < 4 → (level_word ws r 1 < r) × (level_word ws r 2 < r)
+  max_below (is_zero k e) x y = absurd (omega arith)
+  max_below (is_succ k l e) x y = absurd (omega arith)
+  max_below (is_max k l m e) x y = (l, m)
+  max_below (is_imax k l m e) x y = (l, m)
+  max_below (is_param k l e) x y = absurd (omega arith)
 
   pub max_emits : LevelRow (over bs ns ws) r → 2 ≤ level_word ws r 0 → level_word ws r 0 < 4 → (outer : ℕ) (st : State)
       → close_if (ltb 0 outer) (put_join (emit (under 1 (level_par (level_at (over bs ns ws) (level_word ws r 2)))) (put_join
@@ -109,7 +109,7 @@ module _ (bs ns ws : List ℕ) (r : ℕ) where
   unfolding succs_par plus max_par emit quoted
   max_emits (is_zero k e) x y outer st = absurd (omega arith)
   max_emits (is_succ k l e) x y outer st = absurd (omega arith)
-  max_emits (is-max k l m e) x y outer st = rw (
+  max_emits (is_max k l m e) x y outer st = rw (
     e,
     k,
     under_emits outer
@@ -123,51 +123,51 @@ module _ (bs ns ws : List ℕ) (r : ℕ) where
   )
   max_emits (is_param k l e) x y outer st = absurd (omega arith)
 
-  pub plus-is : LevelRow (over bs ns ws) r → (level_word ws r 0 ≡ 0 → ⊥) → (level_word ws r 0 ≡ 1 → ⊥) → (n : ℕ)
+  pub plus_is : LevelRow (over bs ns ws) r → (level_word ws r 0 ≡ 0 → ⊥) → (level_word ws r 0 ≡ 1 → ⊥) → (n : ℕ)
       → plus (level_par (level_at (over bs ns ws) r)) n ≡ succs_par (level_at (over bs ns ws) r) n
   unfolding succs_par plus
-  plus-is (is_zero k e) x y n = absurd (x k)
-  plus-is (is_succ k l e) x y n = absurd (y k)
-  plus-is (is-max k l m e) x y n = rw e
-  plus-is (is_imax k l m e) x y n = rw e
-  plus-is (is_param k l e) x y n = rw e
+  plus_is (is_zero k e) x y n = absurd (x k)
+  plus_is (is_succ k l e) x y n = absurd (y k)
+  plus_is (is_max k l m e) x y n = rw e
+  plus_is (is_imax k l m e) x y n = rw e
+  plus_is (is_param k l e) x y n = rw e
 
   -- ---- sorts
 
-  pub sort-type : LevelRow (over bs ns ws) r → level_word ws r 0 ≡ 1 → (st : State)
+  pub sort_type : LevelRow (over bs ns ws) r → level_word ws r 0 ≡ 1 → (st : State)
       → emit (quoted "Type" ⊹ quoted " " ⊹ under 1024 (level_par (level_at (over bs ns ws) (level_word ws r 1)))) st ≡ emit (sort_doc (level_at (over bs ns ws) r)) st
   unfolding sort_doc
-  sort-type (is_zero k e) q st = absurd (omega arith)
-  sort-type (is_succ k l e) q st = rw e
-  sort-type (is-max k l m e) q st = absurd (omega arith)
-  sort-type (is_imax k l m e) q st = absurd (omega arith)
-  sort-type (is_param k l e) q st = absurd (omega arith)
+  sort_type (is_zero k e) q st = absurd (omega arith)
+  sort_type (is_succ k l e) q st = rw e
+  sort_type (is_max k l m e) q st = absurd (omega arith)
+  sort_type (is_imax k l m e) q st = absurd (omega arith)
+  sort_type (is_param k l e) q st = absurd (omega arith)
 
-  pub sort-sort : LevelRow (over bs ns ws) r → (level_word ws r 0 ≡ 1 → ⊥) → (st : State)
+  pub sort_sort : LevelRow (over bs ns ws) r → (level_word ws r 0 ≡ 1 → ⊥) → (st : State)
       → emit (quoted "Sort" ⊹ quoted " " ⊹ under 1024 (level_par (level_at (over bs ns ws) r))) st ≡ emit (sort_doc (level_at (over bs ns ws) r)) st
   unfolding sort_doc
-  sort-sort (is_zero k e) q st = rw e
-  sort-sort (is_succ k l e) q st = absurd (q k)
-  sort-sort (is-max k l m e) q st = rw e
-  sort-sort (is_imax k l m e) q st = rw e
-  sort-sort (is_param k l e) q st = rw e
+  sort_sort (is_zero k e) q st = rw e
+  sort_sort (is_succ k l e) q st = absurd (q k)
+  sort_sort (is_max k l m e) q st = rw e
+  sort_sort (is_imax k l m e) q st = rw e
+  sort_sort (is_param k l e) q st = rw e
 
 -- ---- lists of levels
 
 abbrev pub shown : Level → Marked
 shown x = under 0 (level_par x)
 
-pub entry-below : (bs ns ws : List ℕ) (t : Tables) → Ready bs ns ws t → (i : ℕ) → i < Q ws → list_entry ws i < L ws
-entry-below bs ns ws t ready i h = rows.entry-fits (over bs ns ws) ready.sound i h
+pub entry_below : (bs ns ws : List ℕ) (t : Tables) → Ready bs ns ws t → (i : ℕ) → i < Q ws → list_entry ws i < L ws
+entry_below bs ns ws t ready i h = rows.entry-fits (over bs ns ws) ready.sound i h
 
 pub list_fits : (bs ns ws : List ℕ) (t : Tables) → Ready bs ns ws t → (r : ℕ) → r < K ws → list_word ws r 0 + list_word ws r 1 ≤ Q ws
 list_fits bs ns ws t ready r h = rows.list_fits (over bs ns ws) ready.sound r h
 
-some-listed : (ls : List Level) (st : State) → (ls ≡ [] → ⊥)
+some_listed : (ls : List Level) (st : State) → (ls ≡ [] → ⊥)
     → put_join (emit (G (quoted "{" ⊹ tile (map shown ls) ⊹ quoted "}")) (put_text (bytes ".") st)) ≡ emit (levels_doc ls) st
 unfolding levels_doc emit quoted
-some-listed [] st h = absurd (h refl)
-some-listed (l ∷ ls) st h = refl
+some_listed [] st h = absurd (h refl)
+some_listed (l ∷ ls) st h = refl
 
 module _ (bs ns ws : List ℕ) where
   pub tile-step : (i to : ℕ) (st : State) → i < to
@@ -184,13 +184,13 @@ module _ (bs ns ws : List ℕ) where
       let e : to - i ≡ 0 = omega arith in
       rw e
 
-  pub levels-emit : (from to : ℕ) (st : State) → from < to
+  pub levels_emit : (from to : ℕ) (st : State) → from < to
       → put_group (put_join (put_text (bytes "}")
       (put_join (put_tile (map shown (levels_from (over bs ns ws) (from + 1) (to - (from + 1))))
       (emit (shown (level_at (over bs ns ws) (list_entry ws from))) (put_text (bytes "{") st))))))
       ≡ emit (G (quoted "{" ⊹ tile (map shown (levels_from (over bs ns ws) from (to - from))) ⊹ quoted "}")) st
   unfolding levels_from tile emit quoted
-  levels-emit from to st h =
+  levels_emit from to st h =
       let e : to - from ≡ suc (to - (from + 1)) = omega arith in
       rw (e, add-one, tile_emits)
 
@@ -199,14 +199,14 @@ module _ (bs ns ws : List ℕ) where
   some_from i zero h e = h refl
   some_from i (suc n) h e = let z : ◌≡◌ {A = ℕ} 0 1 = cc in omega arith
 
-  pub no-levels : (r : ℕ) (st : State) → list_word ws r 1 ≡ 0 → put_text (bytes "") st ≡ emit (levels_doc (list_at (over bs ns ws) r)) st
+  pub no_levels : (r : ℕ) (st : State) → list_word ws r 1 ≡ 0 → put_text (bytes "") st ≡ emit (levels_doc (list_at (over bs ns ws) r)) st
   unfolding list_at levels_from levels_doc emit quoted
-  no-levels r st e = rw e
+  no_levels r st e = rw e
 
-  pub some-levels : (r : ℕ) (st : State) → (list_word ws r 1 ≡ 0 → ⊥)
+  pub some_levels : (r : ℕ) (st : State) → (list_word ws r 1 ≡ 0 → ⊥)
       → put_join (emit (G (quoted
       "{" ⊹ tile (map shown (levels_from (over bs ns ws) (list_word ws r 0) (list_word ws r 0 + list_word ws r 1 - list_word ws r 0))) ⊹ quoted "}"))
       (put_text (bytes ".") st))
       ≡ emit (levels_doc (list_at (over bs ns ws) r)) st
   unfolding list_at
-  some-levels r st h = rw add-sub_cancel_left (some-listed (levels_from (over bs ns ws) (list_word ws r 0) (list_word ws r 1)) st (some_from (list_word ws r 0) (list_word ws r 1) h))
+  some_levels r st h = rw add-sub_cancel_left (some_listed (levels_from (over bs ns ws) (list_word ws r 0) (list_word ws r 1)) st (some_from (list_word ws r 0) (list_word ws r 1) h))

@@ -23,8 +23,8 @@ module _ (F S : ℕ → Shape) (l : List ℕ) (x v : ℕ) (h : x < length l) whe
           ap F s ∙ f m (sym (get_or-set_same l x v 0 h) ∙ ap (λ (i : ℕ). get_or (set l x v) i 0) (sym s) ∙ e)
       by false q = o z m (sym (get_or-set_other l x z v 0 (eqb-false z x q)) ∙ e)
 
-  pub set-down : Owes F S (set l x v) → ((m : ℕ) → get_or l x 0 ≡ suc m → F x ≡ S m) → Owes F S l
-  set-down o f z m e = by (eqb z x) refl
+  pub set_down : Owes F S (set l x v) → ((m : ℕ) → get_or l x 0 ≡ suc m → F x ≡ S m) → Owes F S l
+  set_down o f z m e = by (eqb z x) refl
     where
       by : (b : Bool) → eqb z x ≡ b → F z ≡ S m
       by true q =
@@ -95,7 +95,7 @@ module _ (l after : List ℕ) (x y high low : ℕ) (eh : high ≡ max x y) (el :
   link_first z e =
       subst (λ (k : List ℕ). Linked l k x y) (sym e)
       (record {
-        down = λ S o. set-down S S l high (low + 1) h o (λ m q. absurd (let n : 0 ≡ suc m = sym z ∙ q in omega arith));
+        down = λ S o. set_down S S l high (low + 1) h o (λ m q. absurd (let n : 0 ≡ suc m = sym z ∙ q in omega arith));
         tied = λ S o. tie S (set_says S S l high (low + 1) h o low (add-one low));
         up = λ S o q. set-up S S l high (low + 1) h o (λ m r. untie S q ∙ ap S (let n : low ≡ m = omega arith in n));
       })
@@ -111,7 +111,7 @@ module _ (l after : List ℕ) (x y high low : ℕ) (eh : high ≡ max x y) (el :
       let lowest : (S : ℕ → Shape) → S low ≡ S k → (S v ≡ S low) × (S v ≡ S k) =
       λ S q. subst (λ (i : ℕ). (S i ≡ S low) × (S i ≡ S k)) (sym (ev ∙ ap (min low) one)) (lower_is S low k q) in
       record {
-        down = λ S o. set-down S S l high (v + 1) h (d S o)
+        down = λ S o. set_down S S l high (v + 1) h (d S o)
             (λ m q. set_says S S l high (v + 1) h (d S o) v (add-one v) ∙ (lowest S (lows S o)).1 ∙ ap S (let n : k ≡ m = (let f : suc k ≡ suc m = em ∙ q in omega arith) in n));
         tied = λ S o. tie S (set_says S S l high (v + 1) h (d S o) v (add-one v) ∙ (lowest S (lows S o)).0);
         up = λ S o q.
@@ -128,7 +128,7 @@ module _ (array owed : List ℕ) (x y : ℕ) (h : x < length array) where
   put_first m after em z e =
       subst (λ (k : List ℕ). Put array owed k owed x y) (sym e)
       (record {
-        down = λ F S o q. (set-down F S array x (y + 1) h o (λ i r. absurd (let n : 0 ≡ suc i = sym z ∙ em ∙ r in omega arith)), q);
+        down = λ F S o q. (set_down F S array x (y + 1) h o (λ i r. absurd (let n : 0 ≡ suc i = sym z ∙ em ∙ r in omega arith)), q);
         tied = λ F S o q. set_says F S array x (y + 1) h o y (add-one y);
         up = λ F S o q r. (set-up F S array x (y + 1) h o (λ i s. r ∙ ap S (let n : y ≡ i = omega arith in n)), q);
       })
@@ -145,11 +145,11 @@ module _ (array owed : List ℕ) (x y : ℕ) (h : x < length array) where
 
 -- ---- taking out
 
-pub take-down : (F S : ℕ → Shape) (l : List ℕ) (x : ℕ) → Owes F S (set l x 0) → ((m : ℕ) → get_or l x 0 ≡ suc m → F x ≡ S m) → Owes F S l
-take-down F S l x o f = by (ltb x (length l)) refl
+pub take_down : (F S : ℕ → Shape) (l : List ℕ) (x : ℕ) → Owes F S (set l x 0) → ((m : ℕ) → get_or l x 0 ≡ suc m → F x ≡ S m) → Owes F S l
+take_down F S l x o f = by (ltb x (length l)) refl
   where
     by : (b : Bool) → ltb x (length l) ≡ b → Owes F S l
-    by true q = set-down F S l x 0 (ltb-true x (length l) q) o f
+    by true q = set_down F S l x 0 (ltb-true x (length l) q) o f
     by false q = subst (Owes F S) (set_out l x 0 (ltb-false x (length l) q)) o
 
 pub take-up : (F S : ℕ → Shape) (l : List ℕ) (x : ℕ) → Owes F S l → Owes F S (set l x 0)
@@ -204,12 +204,12 @@ module _ (S : ℕ → Shape) (before : List ℕ) where
     pass_ends c = record { refuted = λ e. absurd (omega arith); holds = λ e. down (clear_owes S S now c) }
 
 -- a row that owes nothing
-pub step-none : (S : ℕ → Shape) (before after : List ℕ) (x m : ℕ) → m ≡ get_or before x 0 → after ≡ set before x 0 → m ≡ 0 → Stepped S before after 1
-step-none S before after x m em e z =
+pub step_none : (S : ℕ → Shape) (before after : List ℕ) (x m : ℕ) → m ≡ get_or before x 0 → after ≡ set before x 0 → m ≡ 0 → Stepped S before after 1
+step_none S before after x m em e z =
     subst (λ (l : List ℕ). Stepped S before l 1) (sym e)
     (record {
       refuted = λ q. absurd (omega arith);
-      down = λ q o. take-down S S before x o (λ i r. absurd (let n : 0 ≡ suc i = sym z ∙ em ∙ r in omega arith));
+      down = λ q o. take_down S S before x o (λ i r. absurd (let n : 0 ≡ suc i = sym z ∙ em ∙ r in omega arith));
       up = λ q o. take-up S S before x o;
     })
 
@@ -219,7 +219,7 @@ module _ (S : ℕ → Shape) (before mid : List ℕ) (x m : ℕ) (em : m ≡ get
   its o = o x (m - 1) (sym em ∙ (let n : m ≡ suc (m - 1) = omega (arith, nz) in n))
 
   back : Owes S S mid → S x ≡ S (m - 1) → Owes S S before
-  back o q = take-down S S before x (subst (Owes S S) e o) (λ i r. q ∙ ap S (let n : m - 1 ≡ i = (let f : m ≡ suc i = em ∙ r in omega arith) in n))
+  back o q = take_down S S before x (subst (Owes S S) e o) (λ i r. q ∙ ap S (let n : m - 1 ≡ i = (let f : m ≡ suc i = em ∙ r in omega arith) in n))
 
   forth : Owes S S before → Owes S S mid
   forth o = subst (Owes S S) (sym e) (take-up S S before x o)

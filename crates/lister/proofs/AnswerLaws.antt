@@ -49,12 +49,12 @@ unfolding print_doc
 late_print m width areas = late_walk (walk (length areas.rows) (length areas.text) m) (unmarked m) width areas
 
 -- "1 to 6 .. change no area"
-pub early-refusals-change-no-area :
+pub early_refusals_change_no_area :
     (v : Verdict) (has_root sizes : Bool) (print : Outcome) (areas : Areas) → Late (number print.answer) →
     1 ≤ number (checked v has_root sizes print areas).answer → number (checked v has_root sizes print areas).answer ≤ 6 →
     (checked v has_root sizes print areas).areas ≡ areas
 unfolding checked untouched Late
-early-refusals-change-no-area v has_root sizes print areas late = by (is_accepted v) has_root sizes
+early_refusals_change_no_area v has_root sizes print areas late = by (is_accepted v) has_root sizes
   where
     answered : Bool → Bool → Bool → Outcome
     answered a p s = cond a (cond p (cond s print (untouched (refusal 6 0) areas)) (untouched (refusal 5 0) areas)) (untouched (Pool v) areas)

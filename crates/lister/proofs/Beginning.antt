@@ -9,7 +9,7 @@ use Rattle.pool.specs.declared.tables.Tables.{Tables}
 use Rattle.pool_check.specs.declared.Verdict.{Verdict}
 use Rattle.pool.specs.Areas.{TablesOf}
 use Rattle.pool_check.specs.Check.{is_accepted}
-use Rattle.pool_check.proofs.Acceptance.{accepted, accepted-is}
+use Rattle.pool_check.proofs.Acceptance.{accepted, accepted_is}
 use Rattle.lister.specs.declared.Answer.{Answer}
 use Rattle.lister.specs.declared.Answer.TheVariants.{Pool, Root, Size}
 use Rattle.lister.specs.Source.{Source, judged}
@@ -49,39 +49,39 @@ pub begins : (source : Source) (t : Tables) (root count indent width : ℕ) → 
 begins source t root count indent width tables e =
     let a = and_both (is_accepted (judged source)) (ltb root count && sizes_ok indent width) e in
     let b = and_both (ltb root count) (sizes_ok indent width) a.1 in
-    let p = accepted source.bytes source.words (accepted-is (judged source) a.0) in
+    let p = accepted source.bytes source.words (accepted_is (judged source) a.0) in
     let s = and_both (leb indent 64) (leb width 65535) b.1 in
     record {
       pool = record { ready = record { sound = p.1; tables = tables }; few = p.0.names };
       root_there = ltb-true root count b.0;
-      indent-small = leb-true indent 64 s.0;
+      indent_small = leb-true indent 64 s.0;
       width_small = leb-true width 65535 s.1;
     }
 
 -- The tests as the code makes them: `n` is the table's count once read, `v` what check found, `s` the test of the sizes, `may` the test of all.
 module _
     (source : Source) (t : Tables) (root count n indent width : ℕ) (v : Verdict) (s may : Bool)
-    (tables : TablesOf source.words source.words t) (count-is : n ≡ count) (verdict-is : v ≡ judged source)
+    (tables : TablesOf source.words source.words t) (count_is : n ≡ count) (verdict-is : v ≡ judged source)
     (sizes-are : s ≡ sizes_ok indent width) (may-is : may ≡ may_print v (ltb root n) s)
   where
     tested : may ≡ may_print (judged source) (ltb root count) (sizes_ok indent width)
     tested =
         may-is
         ∙ ap (λ (x : Verdict). may_print x (ltb root n) s) verdict-is
-        ∙ ap (λ (x : ℕ). may_print (judged source) (ltb root x) s) count-is
+        ∙ ap (λ (x : ℕ). may_print (judged source) (ltb root x) s) count_is
         ∙ ap (λ (x : Bool). may_print (judged source) (ltb root count) x) sizes-are
 
-    pub refused-call : may ≡ false → (a : Answer) (print : Outcome) (areas : Areas) → a ≡ refusal v (ltb root n)
+    pub refused_call : may ≡ false → (a : Answer) (print : Outcome) (areas : Areas) → a ≡ refusal v (ltb root n)
         → record { answer = a; areas = areas } ≡ checked (judged source) (ltb root count) (sizes_ok indent width) print areas
     unfolding untouched
-    refused-call f a print areas e =
+    refused_call f a print areas e =
         ap (λ (x : Answer). record { answer = x; areas = areas })
-        (e ∙ ap (λ (x : Verdict). refusal x (ltb root n)) verdict-is ∙ ap (λ (x : ℕ). refusal (judged source) (ltb root x)) count-is)
+        (e ∙ ap (λ (x : Verdict). refusal x (ltb root n)) verdict-is ∙ ap (λ (x : ℕ). refusal (judged source) (ltb root x)) count_is)
         ∙ refused (judged source) (ltb root count) (sizes_ok indent width) print areas (sym tested ∙ f)
 
-    pub begins-call : may ≡ true → Begins source.bytes source.words source.words t root count indent width
-    begins-call h = begins source t root count indent width tables (sym tested ∙ h)
+    pub begins_call : may ≡ true → Begins source.bytes source.words source.words t root count indent width
+    begins_call h = begins source t root count indent width tables (sym tested ∙ h)
 
-    pub begun-call : may ≡ true → (print : Outcome) (areas : Areas)
+    pub begun_call : may ≡ true → (print : Outcome) (areas : Areas)
         → print ≡ checked (judged source) (ltb root count) (sizes_ok indent width) print areas
-    begun-call h print areas = begun (judged source) (ltb root count) (sizes_ok indent width) print areas (sym tested ∙ h)
+    begun_call h print areas = begun (judged source) (ltb root count) (sizes_ok indent width) print areas (sym tested ∙ h)

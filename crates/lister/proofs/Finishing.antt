@@ -16,7 +16,7 @@ use Rattle.document.specs.Walk.{Marked, unmarked, Progress, going, stopped, walk
 use Rattle.document.specs.Sink.{State, rows_of, text_of, sink_of, emit}
 use Rattle.document.specs.Sink as sink
 use Rattle.document.specs.Sink.State.{state}
-use Rattle.document.proofs.ReadBack.{stored-length, stored_reads_back, stored-accepted}
+use Rattle.document.proofs.ReadBack.{stored-length, stored_reads_back, stored_accepted}
 use Rattle.document.proofs.Steps.{Stopped, sink_at}
 use Rattle.document.proofs.Emits.{Emitted, emit_of_going_walk, emit_of_stopped_walk}
 use Rattle.layout.specs.declared.Laid.{Laid}
@@ -50,7 +50,7 @@ module _ (d : Doc) (fine : Fine d) (few : row_count d ≤ 16384) (small : length
   there = standing d (length areas.rows) (length areas.text)
 
   standing_accepted : Accepted (rows_of there) (sink_of there).rows (text_of there) (sink_of there).text
-  standing_accepted = stored-accepted d more_rows more_texts fine few small
+  standing_accepted = stored_accepted d more_rows more_texts fine few small
 
   -- a document that stands in the areas is laid out
   standing_listed : finished (sink_of there) width (over areas there) ≡ document_listed (row_count d) (length (text_bytes d)) width d areas
@@ -74,33 +74,33 @@ module _
     abbrev T : ℕ
     T = length areas.text
 
-    going-is : (r t : ℕ) → walk R T m ≡ going r t → Emitted R T (unmarked m) r t st
-    going-is r t e = subst (λ (x : State). Emitted R T (unmarked m) r t x) (sym walked) (emit_of_going_walk R T m fine r t e)
+    going_is : (r t : ℕ) → walk R T m ≡ going r t → Emitted R T (unmarked m) r t st
+    going_is r t e = subst (λ (x : State). Emitted R T (unmarked m) r t x) (sym walked) (emit_of_going_walk R T m fine r t e)
 
-    stopped-is : (n at : ℕ) → walk R T m ≡ stopped n at → Stopped n at st
-    stopped-is n at e = subst (λ (x : State). Stopped n at x) (sym walked) (emit_of_stopped_walk R T m fine n at e)
+    stopped_is : (n at : ℕ) → walk R T m ≡ stopped n at → Stopped n at st
+    stopped_is n at e = subst (λ (x : State). Stopped n at x) (sym walked) (emit_of_stopped_walk R T m fine n at e)
 
-    going-finished : (r t : ℕ) → Emitted R T (unmarked m) r t st → finished (sink_of st) width (over areas st) ≡ after_walk (going r t) (unmarked m) width areas
+    going_finished : (r t : ℕ) → Emitted R T (unmarked m) r t st → finished (sink_of st) width (over areas st) ≡ after_walk (going r t) (unmarked m) width areas
     unfolding after_walk
-    going-finished r t g =
+    going_finished r t g =
         ap (λ (x : State). finished (sink_of x) width (over areas x)) g.is
         ∙ standing_listed (unmarked m) fine g.few g.small width areas
         ∙ ap₂ (λ (x y : ℕ). document_listed x y width (unmarked m) areas) (sym g.rows) (sym g.text)
 
-    stopped-finished : (n at : ℕ) → Stopped n at st → length (rows_of st) ≡ R → length (text_of st) ≡ T
+    stopped_finished : (n at : ℕ) → Stopped n at st → length (rows_of st) ≡ R → length (text_of st) ≡ T
         → finished (sink_of st) width (over areas st) ≡ after_walk (stopped n at) (unmarked m) width areas
     unfolding after_walk finished document_cleared
-    stopped-finished n at g lr lt = rw (g.stop, g.at, g.some, lr, lt)
+    stopped_finished n at g lr lt = rw (g.stop, g.at, g.some, lr, lt)
 
-    pub walk-accepted : (sink_of st).stop ≡ 0 → Accepted (rows_of st) (sink_of st).rows (text_of st) (sink_of st).text
-    walk-accepted h = by (walk R T m) refl
+    pub walk_accepted : (sink_of st).stop ≡ 0 → Accepted (rows_of st) (sink_of st).rows (text_of st) (sink_of st).text
+    walk_accepted h = by (walk R T m) refl
       where
         by : (p : Progress) → walk R T m ≡ p → Accepted (rows_of st) (sink_of st).rows (text_of st) (sink_of st).text
         by (going r t) e =
-            let g = going-is r t e in
+            let g = going_is r t e in
             subst (λ (x : State). Accepted (rows_of x) (sink_of x).rows (text_of x) (sink_of x).text) (sym g.is) (standing_accepted (unmarked m) fine g.few g.small width areas)
         by (stopped n at) e =
-            let g = stopped-is n at e in
+            let g = stopped_is n at e in
             absurd (not-zero n g.some (sym g.stop ∙ h))
 
     pub walk-finished : length (rows_of st) ≡ R → length (text_of st) ≡ T → finished (sink_of st) width (over areas st) ≡ print_doc m width areas
@@ -108,8 +108,8 @@ module _
     walk-finished lr lt = by (walk R T m) refl
       where
         by : (p : Progress) → walk R T m ≡ p → finished (sink_of st) width (over areas st) ≡ after_walk p (unmarked m) width areas
-        by (going r t) e = going-finished r t (going-is r t e)
-        by (stopped n at) e = stopped-finished n at (stopped-is n at e) lr lt
+        by (going r t) e = going_finished r t (going_is r t e)
+        by (stopped n at) e = stopped_finished n at (stopped_is n at e) lr lt
 
 -- ---- as the code does it
 
@@ -141,9 +141,9 @@ unfolding stop_answer
 other_stop n place a b c = rw (ne_eqb n 7 a, ne_eqb n 8 b, ne_eqb n 20 c)
 
 -- any layout but one that is done
-pub refused-layout : (l : Laid) → ((counts : Counts) → l ≡ laids.Done counts → ⊥) → Listing ≡ of_laid l
+pub refused_layout : (l : Laid) → ((counts : Counts) → l ≡ laids.Done counts → ⊥) → Listing ≡ of_laid l
 unfolding of_laid
-refused-layout (laids.Done counts) other = absurd (other counts refl)
-refused-layout (laids.Document row) other = refl
-refused-layout laids.Width other = refl
-refused-layout laids.Listing other = refl
+refused_layout (laids.Done counts) other = absurd (other counts refl)
+refused_layout (laids.Document row) other = refl
+refused_layout laids.Width other = refl
+refused_layout laids.Listing other = refl

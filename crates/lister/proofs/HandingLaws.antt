@@ -10,12 +10,12 @@ use lib.ListN.{length, take, drop}
 use borrow.Author.Tests.{ltb-true, leb-true, eqb-true}
 use Rattle.basics.proofs.Booleans.{and_left, and_right}
 use Rattle.document.specs.Rows.{word, measures_at, derived, text_before, fields_ok, same, rule_ok, row_ok, Valid, fault, counts_ok}
-use Rattle.document.proofs.Faults.{counts, accepted-sound}
+use Rattle.document.proofs.Faults.{counts, accepted_sound}
 use Rattle.pool.specs.Tables.{S, string_word, string_at}
 use Rattle.pool.specs.Rules.{rising, string_ok}
 use Rattle.pool.proofs.Clips.{part_clip}
 use Rattle.pool_check.specs.Check.{is_accepted}
-use Rattle.pool_check.proofs.Acceptance.{accepted, accepted-is}
+use Rattle.pool_check.proofs.Acceptance.{accepted, accepted_is}
 use Rattle.utf8.specs.Utf8.{utf8}
 use Rattle.lister.specs.declared.Handed.{Handed}
 use Rattle.lister.specs.declared.Handed.TheVariants.{Text, String}
@@ -41,7 +41,7 @@ text_in rows count text total r h =
     let h2 = and_right (eqb (fault rows total count) count) _ h1 in
     let here = ltb-true _ _ (and_left (ltb r count) (eqb (word rows r 0) 0) h2) in
     let kind = eqb-true (word rows r 0) 0 (and_right (ltb r count) (eqb (word rows r 0) 0) h2) in
-    let rule = (accepted-sound {rows = rows} {count = count} {texts = text} {total = total} (record { counts = ok; faultless = faultless })).valid r here in
+    let rule = (accepted_sound {rows = rows} {count = count} {texts = text} {total = total} (record { counts = ok; faultless = faultless })).valid r here in
     let fields = text_fields rows total (text_before rows r) r (word rows r 0) kind rule in
     let starts : word rows r 1 ≡ text_before rows r = eqb-true _ _ (and_left (eqb (word rows r 1) (text_before rows r)) _ fields) in
     let ends : text_before rows r + word rows r 2 ≤ total = leb-true _ _ (and_right (eqb (word rows r 1) (text_before rows r)) _ fields) in
@@ -51,7 +51,7 @@ text_in rows count text total r h =
 string_in_lem : (source : Source) (r : ℕ) → has_string source r ≡ true → string_word source.words r 0 + string_word source.words r 1 ≤ length source.bytes
 unfolding has_string string_ok
 string_in_lem source r h =
-    let sound = (accepted source.bytes source.words (accepted-is (judged source) (and_left (is_accepted (judged source)) _ h))).1 in
+    let sound = (accepted source.bytes source.words (accepted_is (judged source) (and_left (is_accepted (judged source)) _ h))).1 in
     let here = ltb-true _ _ (and_right (is_accepted (judged source)) (ltb r (S source.words)) h) in
     leb-true _ _
     (and_left
@@ -64,15 +64,15 @@ chosen_in : (b : Bool) (offset size most : ℕ) → (b ≡ true → offset + siz
 chosen_in true offset size most f = f refl
 chosen_in false offset size most f = omega arith
 
-pub span-inside : (source : Source) (rows : List ℕ) (count : ℕ) (text : List ℕ) (total : ℕ) (handed : Handed)
+pub span_inside : (source : Source) (rows : List ℕ) (count : ℕ) (text : List ℕ) (total : ℕ) (handed : Handed)
     → (span_of source rows count text total handed).offset + (span_of source rows count text total handed).size ≤ length (area_of source text handed)
 unfolding span_of area_of text_span string_span
-span-inside source rows count text total (Text r) = chosen_in (has_text rows count text total r) _ _ _ (text_in rows count text total r)
-span-inside source rows count text total (String r) = chosen_in (has_string source r) _ _ _ (string_in_lem source r)
+span_inside source rows count text total (Text r) = chosen_in (has_text rows count text total r) _ _ _ (text_in rows count text total r)
+span_inside source rows count text total (String r) = chosen_in (has_string source r) _ _ _ (string_in_lem source r)
 
 -- ---- the string of a row
 
-pub string-handed : (source : Source) (rows : List ℕ) (count : ℕ) (text : List ℕ) (total r : ℕ) → has_string source r ≡ true
+pub string_handed : (source : Source) (rows : List ℕ) (count : ℕ) (text : List ℕ) (total r : ℕ) → has_string source r ≡ true
     → hand_out source rows count text total (String r) ≡ string_at (pool_of source) r
 unfolding hand_out span_of area_of string_span string_at
-string-handed source rows count text total r h = rw h
+string_handed source rows count text total r h = rw h

@@ -42,7 +42,7 @@ pub done_reports : (counts : Counts)
 unfolding number place of_laid
 done_reports counts = (refl, refl)
 
-pub short-reports :
+pub short_reports :
     (number (of_laid (layout.refusal 22 0)) ≡ layout.number (layout.refusal 22 0)) × (place (of_laid (layout.refusal 22 0)) ≡ layout.place (layout.refusal 22 0))
 unfolding number place of_laid
-short-reports = (refl, refl)
+short_reports = (refl, refl)

@@ -26,7 +26,7 @@ refusal v has_root = cond (is_accepted v) (cond has_root Size Root) (Pool v)
 pub record Begins (bytes names words : List ℕ) (t : Tables) (root count indent width : ℕ) : Type 0 where
   pub pool : Pooled bytes names words t
   pub root_there : root < count
-  pub indent-small : indent ≤ 64
+  pub indent_small : indent ≤ 64
   pub width_small : width ≤ 65535
 
 -- ---- after the walk

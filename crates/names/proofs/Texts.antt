@@ -16,7 +16,7 @@ use Rattle.pool.specs.Tree.{Name, anonymous, string, number}
 use Rattle.pieces.specs.Docs.{digits}
 use Rattle.names.specs.Names.{escaped, dotted, joined, is_anonymous, name_text, name_doc, is_hygienic}
 use Rattle.names.specs.Components.{prefix_of, component, is_number, is_hyg, put_dot}
-use Rattle.pieces.proofs.Emitting.{byte-stopped, bytes-stopped, bytes-append}
+use Rattle.pieces.proofs.Emitting.{byte_stopped, bytes_stopped, bytes-append}
 use Rattle.pieces.proofs.WordTable.{same_eq}
 
 absurd_bool : {P : Type 0} → ◌≡◌ {A = Bool} true false → P
@@ -24,11 +24,11 @@ absurd_bool q = absurd (let z : ◌≡◌ {A = ℕ} 0 1 = cc in omega arith)
 
 -- ---- components
 
-pub number-named : (n : Name) → is_number n ≡ true → is_anonymous n ≡ false
+pub number_named : (n : Name) → is_number n ≡ true → is_anonymous n ≡ false
 unfolding is_number is_anonymous
-number-named anonymous a = sym a
-number-named (string p s) a = refl
-number-named (number p k) a = refl
+number_named anonymous a = sym a
+number_named (string p s) a = refl
+number_named (number p k) a = refl
 
 pub hygienic_on : (n : Name) → is_number n ≡ true → is_hygienic (prefix_of n) ≡ is_hygienic n
 unfolding is_number is_hygienic prefix_of
@@ -67,10 +67,10 @@ grows (b ∷ bs) st =
     omega arith
 
 -- where it has not grown by some bytes, the sink has stopped
-not-grown : (b : ℕ) (bs : List ℕ) (st : State) → (sink_of (put_bytes bs (put_byte b st))).text ≡ (sink_of st).text
+not_grown : (b : ℕ) (bs : List ℕ) (st : State) → (sink_of (put_bytes bs (put_byte b st))).text ≡ (sink_of st).text
     → eqb (sink_of (put_bytes bs (put_byte b st))).stop 0 ≡ false
 unfolding put_byte
-not-grown b bs (state rows text s) h = go (eqb s.stop 0) (ltb s.text 65536) (ltb s.text (length text)) refl h
+not_grown b bs (state rows text s) h = go (eqb s.stop 0) (ltb s.text 65536) (ltb s.text (length text)) refl h
   where
     more : Sink
     more = record { rows = s.rows; text = s.text + 1; stop = s.stop; place = s.place }
@@ -80,7 +80,7 @@ not-grown b bs (state rows text s) h = go (eqb s.stop 0) (ltb s.text 65536) (ltb
         cond x (cond y (cond z (state rows (set text s.text b) more) (state rows text (stopped_at 21 s.rows s))) (state rows text (stopped_at 8 s.rows s))) (state rows text s)
 
     stays : (st : State) → eqb (sink_of st).stop 0 ≡ false → eqb (sink_of (put_bytes bs st)).stop 0 ≡ false
-    stays st e = ap (λ (x : State). eqb (sink_of x).stop 0) (bytes-stopped bs st e) ∙ e
+    stays st e = ap (λ (x : State). eqb (sink_of x).stop 0) (bytes_stopped bs st e) ∙ e
 
     go : (x y z : Bool) → eqb s.stop 0 ≡ x → (sink_of (put_bytes bs (after x y z))).text ≡ s.text → eqb (sink_of (put_bytes bs (after x y z))).stop 0 ≡ false
     go true true true e h = absurd (omega (arith, grows bs (state rows (set text s.text b) more)))
@@ -97,14 +97,14 @@ dot_on (b ∷ p) c st = ap (put_bytes c) (go (eqb (sink_of x).text (sink_of st).
     x = put_bytes p (put_byte b st)
 
     go : (t : Bool) → eqb (sink_of x).text (sink_of st).text ≡ t → cond t x (put_byte 46 x) ≡ put_byte 46 x
-    go true e = sym (byte-stopped 46 x (not-grown b p st (eqb-true _ _ e)))
+    go true e = sym (byte_stopped 46 x (not_grown b p st (eqb-true _ _ e)))
     go false e = refl
 
-pub joined-none : (n : Name) (st : State) → is_anonymous n ≡ true → st ≡ put_bytes (joined n) st
+pub joined_none : (n : Name) (st : State) → is_anonymous n ≡ true → st ≡ put_bytes (joined n) st
 unfolding is_anonymous joined put_bytes
-joined-none anonymous st a = refl
-joined-none (string p s) st a = absurd_bool (sym a)
-joined-none (number p k) st a = absurd_bool (sym a)
+joined_none anonymous st a = refl
+joined_none (string p s) st a = absurd_bool (sym a)
+joined_none (number p k) st a = absurd_bool (sym a)
 
 pub joined_on : (n : Name) (st : State) → is_anonymous n ≡ false
     → put_bytes (component n) (put_dot (sink_of st).text (put_bytes (joined (prefix_of n)) st)) ≡ put_bytes (joined n) st
@@ -119,13 +119,13 @@ dot_stopped from st e = go (eqb (sink_of st).text from)
   where
     go : (b : Bool) → cond b st (put_byte 46 st) ≡ st
     go true = refl
-    go false = byte-stopped 46 st e
+    go false = byte_stopped 46 st e
 
 -- after a refusal the last component adds nothing
-pub joined-stopped : (n p : Name) (st after : State) → is_anonymous n ≡ false → p ≡ prefix_of n → after ≡ put_bytes (joined p) st
+pub joined_stopped : (n p : Name) (st after : State) → is_anonymous n ≡ false → p ≡ prefix_of n → after ≡ put_bytes (joined p) st
     → eqb (sink_of after).stop 0 ≡ false → after ≡ put_bytes (joined n) st
-joined-stopped n p st after a q h e =
-    sym (ap (put_bytes (component n)) (dot_stopped (sink_of st).text after e) ∙ bytes-stopped (component n) after e)
+joined_stopped n p st after a q h e =
+    sym (ap (put_bytes (component n)) (dot_stopped (sink_of st).text after e) ∙ bytes_stopped (component n) after e)
     ∙ ap (λ (x : State). put_bytes (component n) (put_dot (sink_of st).text x)) (h ∙ ap (λ (x : Name). put_bytes (joined x) st) q)
     ∙ joined_on n st a
 
@@ -143,13 +143,13 @@ escaped_odd s st e =
 
 -- ---- the document
 
-pub doc-anonymous : (n : Name) (st : State) → is_anonymous n ≡ true → put_text (bytes "«»") st ≡ emit (name_doc n) st
+pub doc_anonymous : (n : Name) (st : State) → is_anonymous n ≡ true → put_text (bytes "«»") st ≡ emit (name_doc n) st
 unfolding name_doc name_text emit
-doc-anonymous n st e = rw e
+doc_anonymous n st e = rw e
 
-pub doc-joined : (n : Name) (st : State) → is_anonymous n ≡ false → put_text (joined n) st ≡ emit (name_doc n) st
+pub doc_joined : (n : Name) (st : State) → is_anonymous n ≡ false → put_text (joined n) st ≡ emit (name_doc n) st
 unfolding name_doc name_text emit
-doc-joined n st e = rw e
+doc_joined n st e = rw e
 
 -- ---- "_hyg"
 

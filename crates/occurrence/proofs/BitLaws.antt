@@ -29,10 +29,10 @@ bit-or (suc k) a b =
     let d = digit_or (a % 2) (b % 2) (mod-lt a (zero-lt-suc 1)) (mod-lt b (zero-lt-suc 1)) in
     ap (λ (w : ℕ). bit k (w / 2)) (or_step a b) ∙ ap (bit k) (digits_div (bit_or (a / 2) (b / 2)) d.0) ∙ bit-or k (a / 2) (b / 2)
 
-pub bit-none : (k : ℕ) → bit k 0 ≡ false
+pub bit_none : (k : ℕ) → bit k 0 ≡ false
 unfolding bit
-bit-none zero = refl
-bit-none (suc k) = bit-none k
+bit_none zero = refl
+bit_none (suc k) = bit_none k
 
 same-suc : (n k : ℕ) → eqb n k ≡ eqb (suc n) (suc k)
 same-suc n k = by (eqb n k) refl
@@ -45,7 +45,7 @@ pub bit-one : (k n : ℕ) → bit k (2 ^ n) ≡ eqb n k
 unfolding bit
 bit-one zero zero = refl
 bit-one zero (suc n) = ap (λ (w : ℕ). eqb w 1) (ap (λ (w : ℕ). w % 2) (pow-suc 2 n) ∙ mul-mod_left (2 ^ n) 2) ∙ sym (ne_eqb (suc n) 0 (λ q. omega arith))
-bit-one (suc k) zero = bit-none k ∙ sym (ne_eqb 0 (suc k) (λ q. omega arith))
+bit-one (suc k) zero = bit_none k ∙ sym (ne_eqb 0 (suc k) (λ q. omega arith))
 bit-one (suc k) (suc n) = ap (bit k) (ap (λ (w : ℕ). w / 2) (pow-suc 2 n) ∙ mul-div_cancel (2 ^ n) (zero-lt-suc 1)) ∙ bit-one k n ∙ same-suc n k
 
 -- a word of n bits, and a number before it
@@ -55,19 +55,19 @@ bit_below zero k c x h = absurd (omega arith)
 bit_below (suc n) zero c x h = ap (λ (w : ℕ). eqb w 1) (block_odd c n x)
 bit_below (suc n) (suc k) c x h = ap (bit k) (block_half c n x) ∙ bit_below n k c (x / 2) (omega arith)
 
-bit-first : (n c x : ℕ) → x < 2 ^ n → bit n (c * 2 ^ n + x) ≡ bit 0 c
+bit_first : (n c x : ℕ) → x < 2 ^ n → bit n (c * 2 ^ n + x) ≡ bit 0 c
 unfolding bit
-bit-first zero c x h = ap (λ (w : ℕ). eqb (w % 2) 1) (let e : c * 1 + x ≡ c = omega arith in e)
-bit-first (suc n) c x h =
+bit_first zero c x h = ap (λ (w : ℕ). eqb (w % 2) 1) (let e : c * 1 + x ≡ c = omega arith in e)
+bit_first (suc n) c x h =
     let g : x < 2 ^ n * 2 = subst (λ (w : ℕ). x < w) (pow-suc 2 n) h in
-    ap (bit n) (block_half c n x) ∙ bit-first n c (x / 2) (omega arith)
+    ap (bit n) (block_half c n x) ∙ bit_first n c (x / 2) (omega arith)
 
 digit_bit : (c : ℕ) → bit 0 (c % 2) ≡ bit 0 c
 unfolding bit
 digit_bit c = ap (λ (w : ℕ). eqb w 1) (let e : c % 2 % 2 ≡ c % 2 = omega arith in e)
 
-pub sum-small : (x y : ℕ) → x ≤ 9223372036854775807 → y ≤ 9223372036854775808 → x + y < 18446744073709551616
-sum-small x y h g = omega arith
+pub sum_small : (x y : ℕ) → x ≤ 9223372036854775807 → y ≤ 9223372036854775808 → x + y < 18446744073709551616
+sum_small x y h g = omega arith
 
 -- a word of 64 bits moved down by one, with a carry from above
 module _ (w c : ℕ) where
@@ -82,7 +82,7 @@ module _ (w c : ℕ) where
   bit_moved k h = ap (bit k) swapped ∙ bit_below 63 k (c % 2) (w / 2) h
 
   pub bit_carried : w < 18446744073709551616 → bit 63 moved ≡ bit 0 c
-  bit_carried h = ap (bit 63) swapped ∙ bit-first 63 (c % 2) (w / 2) (let g : w / 2 < 9223372036854775808 = omega arith in g) ∙ digit_bit c
+  bit_carried h = ap (bit 63) swapped ∙ bit_first 63 (c % 2) (w / 2) (let g : w / 2 < 9223372036854775808 = omega arith in g) ∙ digit_bit c
 
-  pub moved-small : w < 18446744073709551616 → moved < 18446744073709551616
-  moved-small h = omega arith
+  pub moved_small : w < 18446744073709551616 → moved < 18446744073709551616
+  moved_small h = omega arith

@@ -138,18 +138,18 @@ depth_at p (suc r) = depth (expr_at p r)
 deep_next : (p : Pool) (r : ℕ) → depth_at p (r + 1) ≡ depth (expr_at p r)
 deep_next p r = ap (depth_at p) (add-one r)
 
-pub some-depth : (e : Expr) → 0 < depth e
+pub some_depth : (e : Expr) → 0 < depth e
 unfolding depth
-some-depth (var i) = omega arith
-some-depth (sort l) = omega arith
-some-depth (const n ls) = omega arith
-some-depth (app f a) = omega arith
-some-depth (pi p n s t b) = omega arith
-some-depth (lam p n s t b) = omega arith
-some-depth (letᵉ p n t v b d) = omega arith
-some-depth (proj n i e) = omega arith
-some-depth (nat s) = omega arith
-some-depth (str s) = omega arith
+some_depth (var i) = omega arith
+some_depth (sort l) = omega arith
+some_depth (const n ls) = omega arith
+some_depth (app f a) = omega arith
+some_depth (pi p n s t b) = omega arith
+some_depth (lam p n s t b) = omega arith
+some_depth (letᵉ p n t v b d) = omega arith
+some_depth (proj n i e) = omega arith
+some_depth (nat s) = omega arith
+some_depth (str s) = omega arith
 
 module _ (p : Pool) (sound : Sound p) (r : ℕ) (h : r < E p.words) where
   abbrev w₃ : ℕ → ℕ
@@ -159,7 +159,7 @@ module _ (p : Pool) (sound : Sound p) (r : ℕ) (h : r < E p.words) where
   deep = depth (expr_at p r)
 
   none_deep : 0 < deep
-  none_deep = some-depth (expr_at p r)
+  none_deep = some_depth (expr_at p r)
 
   app_deep : w₃ 0 ≡ 3 → (depth_at p (w₃ 1 + 1) < deep) × (depth_at p (w₃ 2 + 1) < deep)
   unfolding depth

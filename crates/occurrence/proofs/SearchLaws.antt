@@ -20,14 +20,14 @@ module _ (bs ns ws : List ℕ) (t : Tables) (r i : ℕ) (ready : Ready bs ns ws 
   abbrev p : Pool
   p = over bs ns ws
 
-  tree-loose : l ≡ loose (expr_at p r)
-  tree-loose = el ∙ loose-word p ready.sound r row
+  tree_loose : l ≡ loose (expr_at p r)
+  tree_loose = el ∙ loose-word p ready.sound r row
 
   pub low_at_once : l ≤ i → false ≡ occurs i (expr_at p r)
-  low_at_once h = sym (none_above i (expr_at p r) (subst (λ (x : ℕ). x ≤ i) tree-loose h))
+  low_at_once h = sym (none_above i (expr_at p r) (subst (λ (x : ℕ). x ≤ i) tree_loose h))
 
   pub last_at_once : l ≡ i + 1 → true ≡ occurs i (expr_at p r)
-  last_at_once e = sym (greatest_occurs i (expr_at p r) (sym tree-loose ∙ e ∙ add-one i))
+  last_at_once e = sym (greatest_occurs i (expr_at p r) (sym tree_loose ∙ e ∙ add-one i))
 
   -- its kind, and its parts
   module _ (n : l ≡ i + 1 → ⊥) (kind : ℕ) (ek : kind ≡ expr_word ws r 0) where
@@ -37,14 +37,14 @@ module _ (bs ns ws : List ℕ) (t : Tables) (r i : ℕ) (ready : Ready bs ns ws 
         in_parts p ready.sound r row i (λ q. n (el ∙ q ∙ sym (add-one i)))
         ∙ ap (λ (k : ℕ). occurs_at p i (first_part ws r k) || (occurs_at p i (second_part ws r k) || occurs_at p (suc i) (body_part ws r k))) (sym ek)
 
-    pub first-row : (first : ℕ) → first ≡ first_part ws r kind → first ≤ r
-    first-row first e = rw (e, ek) (first_lower p ready.sound r row)
+    pub first_row : (first : ℕ) → first ≡ first_part ws r kind → first ≤ r
+    first_row first e = rw (e, ek) (first_lower p ready.sound r row)
 
-    pub second-row : (second : ℕ) → second ≡ second_part ws r kind → second ≤ r
-    second-row second e = rw (e, ek) (second_lower p ready.sound r row)
+    pub second_row : (second : ℕ) → second ≡ second_part ws r kind → second ≤ r
+    second_row second e = rw (e, ek) (second_lower p ready.sound r row)
 
-    pub body-row : (body : ℕ) → body ≡ body_part ws r kind → body ≤ r
-    body-row body e = rw (e, ek) (body_lower p ready.sound r row)
+    pub body_row : (body : ℕ) → body ≡ body_part ws r kind → body ≤ r
+    body_row body e = rw (e, ek) (body_lower p ready.sound r row)
 
     -- what was answered of the parts
     module _ (first : ℕ) (e₁ : first ≡ first_part ws r kind) (v₁ : Bool) (a₁ : v₁ ≡ occurs_at p i first) where

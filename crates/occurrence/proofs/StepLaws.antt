@@ -48,11 +48,11 @@ module _ (ws sets above : List ℕ) (base r l : ℕ) (el : l ≡ expr_word ws r 
   unfolding row_word
   word_none h = rw (le-leb _ _ (subst (λ (x : ℕ). x ≤ base) el h))
 
-  pub word-is : base < l → (kind first second body : ℕ) → kind ≡ expr_word ws r 0 → first ≡ first_part ws r kind → second ≡ second_part ws r kind
+  pub word_is : base < l → (kind first second body : ℕ) → kind ≡ expr_word ws r 0 → first ≡ first_part ws r kind → second ≡ second_part ws r kind
       → body ≡ body_part ws r kind → (a b c d u v w : ℕ) → a ≡ part_word sets first → b ≡ part_word sets second → c ≡ body_word sets above body
       → d ≡ last_bit l base → u ≡ bit_or b c → v ≡ bit_or a u → w ≡ bit_or d v → w ≡ row_word ws sets above base r
   unfolding row_word
-  word-is h kind first second body ek e₁ e₂ e₃ a b c d u v w ea eb ec ed eu ev ew =
+  word_is h kind first second body ek e₁ e₂ e₃ a b c d u v w ea eb ec ed eu ev ew =
       rw (ew, ev, eu, ed, ec, eb, ea, e₃, e₂, e₁, ek, el, lt-leb (expr_word ws r 7) base (subst (λ (x : ℕ). base < x) el h))
 
 -- a row's step

@@ -21,8 +21,8 @@ use Rattle.pool.proofs.TreeLaws.{none_above, greatest_occurs}
 use Rattle.pool.proofs.ExprUnfolds.{loose-word, depth-word}
 use Rattle.occurrence.specs.Parts.{first_part, second_part, body_part, occurs_at}
 use Rattle.occurrence.specs.Sets.{bit, Kept, kept, part_word, body_word, last_bit, row_word, row_step, sweep_rows, sweeps, Sweep, Answers}
-use Rattle.occurrence.proofs.PartLaws.{in_parts, first_lower, second_lower, body_lower, depth_at, some-depth, first_deep, second_deep, body_deep}
-use Rattle.occurrence.proofs.BitLaws.{bit-or, bit-none, bit-one, bit_moved, bit_carried, moved-small}
+use Rattle.occurrence.proofs.PartLaws.{in_parts, first_lower, second_lower, body_lower, depth_at, some_depth, first_deep, second_deep, body_deep}
+use Rattle.occurrence.proofs.BitLaws.{bit-or, bit_none, bit-one, bit_moved, bit_carried, moved_small}
 
 abbrev pub small : ℕ → Type 0
 small w = w < 18446744073709551616
@@ -48,22 +48,22 @@ unfolding last_bit
 last_absent l base k h n = by (ltb (base + 64) l) refl
   where
     by : (b : Bool) → ltb (base + 64) l ≡ b → bit k (cond b 0 (2 ^ (l - base - 1))) ≡ false
-    by true e = bit-none k
+    by true e = bit_none k
     by false e = bit-one k (l - base - 1) ∙ ne_eqb (l - base - 1) k (λ q. n (omega arith))
 
-last-small : (l base : ℕ) → base < l → small (last_bit l base)
+last_small : (l base : ℕ) → base < l → small (last_bit l base)
 unfolding last_bit
-last-small l base h = by (ltb (base + 64) l) refl
+last_small l base h = by (ltb (base + 64) l) refl
   where
     by : (b : Bool) → ltb (base + 64) l ≡ b → small (cond b 0 (2 ^ (l - base - 1)))
     by true e = omega arith
     by false e = let g : l ≤ base + 64 = ltb-false (base + 64) l e in pow-lt {i = l - base - 1} {j = 64} (omega arith)
 
-or-small : (a b : ℕ) → small a → small b → small (bit_or a b)
-or-small a b h g = or_lt 64 a b h g
+or_small : (a b : ℕ) → small a → small b → small (bit_or a b)
+or_small a b h g = or_lt 64 a b h g
 
-none-small : small 0
-none-small = omega arith
+none_small : small 0
+none_small = omega arith
 
 -- a row, over right words of lower rows
 module _ (p : Pool) (sound : Sound p) (base end r : ℕ) (h : r < E p.words) (sets above : List ℕ)
@@ -71,24 +71,24 @@ module _ (p : Pool) (sound : Sound p) (base end r : ℕ) (h : r < E p.words) (se
   -- a part under as many binders
   part_small : (part : ℕ) → part ≤ r → small (part_word sets part)
   unfolding part_word
-  part_small zero g = none-small
+  part_small zero g = none_small
   part_small (suc x) g = (lower x (omega arith)).fits
 
   part_says : (k : ℕ) → k < 64 → base + k + depth (expr_at p r) ≤ end → (part : ℕ) → part ≤ r → depth_at p part < depth (expr_at p r)
       → bit k (part_word sets part) ≡ occurs_at p (base + k) part
   unfolding part_word occurs_at
-  part_says k f e zero g d = bit-none k
+  part_says k f e zero g d = bit_none k
   part_says k f e (suc x) g d = (lower x (omega arith)).says k f (omega arith)
 
   -- a body
-  body-small : (part : ℕ) → part ≤ r → small (body_word sets above part)
+  body_small : (part : ℕ) → part ≤ r → small (body_word sets above part)
   unfolding body_word
-  body-small part g = moved-small (part_word sets part) (part_word above part) (part_small part g)
+  body_small part g = moved_small (part_word sets part) (part_word above part) (part_small part g)
 
   body_says : (k : ℕ) → k < 64 → base + k + depth (expr_at p r) ≤ end → (part : ℕ) → part ≤ r → depth_at p part < depth (expr_at p r)
       → bit k (body_word sets above part) ≡ occurs_at p (suc (base + k)) part
   unfolding body_word part_word occurs_at
-  body_says k f e zero g d = bit-none k
+  body_says k f e zero g d = bit_none k
   body_says k f e (suc x) g d = by (ltb k 63) refl
     where
       w : Right p base end x (get_or sets x 0)
@@ -123,9 +123,9 @@ module _ (p : Pool) (sound : Sound p) (base end r : ℕ) (h : r < E p.words) (se
   union_small : base < l → small union
   unfolding union
   union_small g =
-      or-small _ _ (last-small l base g)
-      (or-small _ _ (part_small one (first_lower p sound r h))
-      (or-small _ _ (part_small two (second_lower p sound r h)) (body-small under (body_lower p sound r h))))
+      or_small _ _ (last_small l base g)
+      (or_small _ _ (part_small one (first_lower p sound r h))
+      (or_small _ _ (part_small two (second_lower p sound r h)) (body_small under (body_lower p sound r h))))
 
   union_says : base < l → (k : ℕ) → k < 64 → base + k + depth (expr_at p r) ≤ end → bit k union ≡ occurs (base + k) (expr_at p r)
   unfolding union
@@ -152,14 +152,14 @@ module _ (p : Pool) (sound : Sound p) (base end r : ℕ) (h : r < E p.words) (se
       by : (b : Bool) → leb l base ≡ b → Right p base end r (cond b 0 (bit_or (last_bit l base) (bit_or (part_word sets one) (bit_or (part_word sets two) (body_word sets above under)))))
       by true q =
           record {
-            fits = none-small;
-            says = λ k f e. bit-none k ∙ sym (none_above (base + k) (expr_at p r) (let g : l ≤ base = leb-true l base q in omega (arith, loose-word p sound r h)));
+            fits = none_small;
+            says = λ k f e. bit_none k ∙ sym (none_above (base + k) (expr_at p r) (let g : l ≤ base = leb-true l base q in omega (arith, loose-word p sound r h)));
           }
       by false q = record { fits = union_small (leb-false l base q); says = union_says (leb-false l base q) }
 
-bit-low : (w : ℕ) → bit 0 (w % 2) ≡ bit 0 w
+bit_low : (w : ℕ) → bit 0 (w % 2) ≡ bit 0 w
 unfolding bit
-bit-low w = ap (λ (v : ℕ). eqb v 1) (let e : w % 2 % 2 ≡ w % 2 = omega arith in e)
+bit_low w = ap (λ (v : ℕ). eqb v 1) (let e : w % 2 % 2 ≡ w % 2 = omega arith in e)
 
 abbrev sets_of : Kept → List ℕ
 sets_of (kept sets above) = sets
@@ -205,7 +205,7 @@ module _ (p : Pool) (sound : Sound p) (base end n : ℕ) (few : n ≤ E p.words)
     low_carry =
         at_next (λ (x : ℕ). Carry p base end x (get_or low x 0)) r
         (λ x f. subst (Carry p base end x) (sym (other above (get_or sets r 0 % 2) x (λ q. omega arith))) (g.carry x f))
-        (λ e. ap (bit 0) (get_or-set_same above r (get_or sets r 0 % 2) 0 (omega (arith, g.fits_above))) ∙ bit-low (get_or sets r 0)
+        (λ e. ap (bit 0) (get_or-set_same above r (get_or sets r 0 % 2) 0 (omega (arith, g.fits_above))) ∙ bit_low (get_or sets r 0)
         ∙ (g.old r (omega arith) h).says 0 (omega arith) (omega arith) ∙ ap (λ (i : ℕ). occurs i (expr_at p r)) (add-zero (base + 64)))
 
     stepped : Right p base end r word
@@ -276,7 +276,7 @@ answered ws t r i sets above after lows a d ed e bs ns ready =
       sets = sets;
       above = above;
       is = refl;
-      right = λ x f. record { fits = a.small x; says = λ k g q. absurd (omega (arith, q, some-depth (expr_at p x))) };
+      right = λ x f. record { fits = a.small x; says = λ k g q. absurd (omega (arith, q, some_depth (expr_at p x))) };
       fits = omega (arith, a.fits);
       fits_above = omega (arith, a.fits_above);
     } in

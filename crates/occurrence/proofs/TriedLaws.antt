@@ -14,7 +14,7 @@ use Rattle.pool.specs.Ready.{Ready}
 use Rattle.occurrence.specs.Asked.{Told}
 use Rattle.occurrence.specs.Parts.{first_part, second_part, body_part, occurs_at}
 use Rattle.occurrence.proofs.PartLaws.{no_part, a_part}
-use Rattle.occurrence.proofs.SearchLaws.{parts, first-row, second-row, body-row, low_at_once, last_at_once}
+use Rattle.occurrence.proofs.SearchLaws.{parts, first_row, second_row, body_row, low_at_once, last_at_once}
 
 pub told_nothing : (asked : Bool) → Told asked 2
 told_nothing asked = record { no = λ e. absurd (omega arith); yes = λ e. absurd (omega arith) }
@@ -26,11 +26,11 @@ pub told_part : (p : Pool) (i part v : ℕ) → (part ≡ 0 → ⊥) → Told (o
 told_part p i part v n a = record { no = λ z. sym (a_part p i part n) ∙ a.no z; yes = λ z. sym (a_part p i part n) ∙ a.yes z }
 
 module _ (bs ns ws : List ℕ) (t : Tables) (r i : ℕ) (ready : Ready bs ns ws t) (row : r < E ws) (l : ℕ) (el : l ≡ expr_word ws r 7) where
-  pub told-low : l ≤ i → Told (occurs i (expr_at (over bs ns ws) r)) 0
-  told-low h = record { no = λ z. sym (low_at_once bs ns ws t r i ready row l el h); yes = λ z. absurd (omega arith) }
+  pub told_low : l ≤ i → Told (occurs i (expr_at (over bs ns ws) r)) 0
+  told_low h = record { no = λ z. sym (low_at_once bs ns ws t r i ready row l el h); yes = λ z. absurd (omega arith) }
 
-  pub told-last : l ≡ i + 1 → Told (occurs i (expr_at (over bs ns ws) r)) 1
-  told-last e = record { no = λ z. absurd (omega arith); yes = λ z. sym (last_at_once bs ns ws t r i ready row l el e) }
+  pub told_last : l ≡ i + 1 → Told (occurs i (expr_at (over bs ns ws) r)) 1
+  told_last e = record { no = λ z. absurd (omega arith); yes = λ z. sym (last_at_once bs ns ws t r i ready row l el e) }
 
   module _ (n : l ≡ i + 1 → ⊥) (kind : ℕ) (ek : kind ≡ expr_word ws r 0) where
     abbrev p : Pool
@@ -40,30 +40,30 @@ module _ (bs ns ws : List ℕ) (t : Tables) (r i : ℕ) (ready : Ready bs ns ws 
     whole = parts bs ns ws t r i ready row l el n kind ek
 
     pub ask_first_part : (first : ℕ) → first ≡ first_part ws r kind → first ≤ r
-    ask_first_part = first-row bs ns ws t r i ready row l el n kind ek
+    ask_first_part = first_row bs ns ws t r i ready row l el n kind ek
 
     pub ask_second_part : (second : ℕ) → second ≡ second_part ws r kind → second ≤ r
-    ask_second_part = second-row bs ns ws t r i ready row l el n kind ek
+    ask_second_part = second_row bs ns ws t r i ready row l el n kind ek
 
     pub ask_body_part : (body : ℕ) → body ≡ body_part ws r kind → body ≤ r
-    ask_body_part = body-row bs ns ws t r i ready row l el n kind ek
+    ask_body_part = body_row bs ns ws t r i ready row l el n kind ek
 
     module _ (first : ℕ) (e₁ : first ≡ first_part ws r kind) (v₁ : ℕ) (a₁ : Told (occurs_at p i first) v₁) where
       is₁ : occurs_at p i (first_part ws r kind) ≡ occurs_at p i first
       is₁ = ap (occurs_at p i) (sym e₁)
 
-      pub told-first : (v₁ ≡ 0 → ⊥) → Told (occurs i (expr_at p r)) v₁
-      told-first f = record { no = λ z. absurd (f z); yes = λ z. whole ∙ rw (is₁, a₁.yes z) }
+      pub told_first : (v₁ ≡ 0 → ⊥) → Told (occurs i (expr_at p r)) v₁
+      told_first f = record { no = λ z. absurd (f z); yes = λ z. whole ∙ rw (is₁, a₁.yes z) }
 
       module _ (z₁ : v₁ ≡ 0) (second : ℕ) (e₂ : second ≡ second_part ws r kind) (v₂ : ℕ) (a₂ : Told (occurs_at p i second) v₂) where
         is₂ : occurs_at p i (second_part ws r kind) ≡ occurs_at p i second
         is₂ = ap (occurs_at p i) (sym e₂)
 
-        pub told-second : (v₂ ≡ 0 → ⊥) → Told (occurs i (expr_at p r)) v₂
-        told-second f = record { no = λ z. absurd (f z); yes = λ z. whole ∙ rw (is₁, a₁.no z₁, is₂, a₂.yes z) }
+        pub told_second : (v₂ ≡ 0 → ⊥) → Told (occurs i (expr_at p r)) v₂
+        told_second f = record { no = λ z. absurd (f z); yes = λ z. whole ∙ rw (is₁, a₁.no z₁, is₂, a₂.yes z) }
 
-        pub told-body : v₂ ≡ 0 → (body : ℕ) → body ≡ body_part ws r kind → (v₃ : ℕ) → Told (occurs_at p (i + 1) body) v₃ → Told (occurs i (expr_at p r)) v₃
-        told-body z₂ body e₃ v₃ a₃ =
+        pub told_body : v₂ ≡ 0 → (body : ℕ) → body ≡ body_part ws r kind → (v₃ : ℕ) → Told (occurs_at p (i + 1) body) v₃ → Told (occurs i (expr_at p r)) v₃
+        told_body z₂ body e₃ v₃ a₃ =
             let is₃ : occurs_at p (suc i) (body_part ws r kind) ≡ occurs_at p (i + 1) body = ap₂ (occurs_at p) (sym (add-one i)) (sym e₃) in
             record {
               no = λ z. whole ∙ rw (is₁, a₁.no z₁, is₂, a₂.no z₂, is₃, a₃.no z);

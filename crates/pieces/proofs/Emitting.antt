@@ -23,14 +23,14 @@ row_stays : (kind a b : ℕ) (m : Measures) (st : State) → eqb (sink_of st).st
 unfolding put_row
 row_stays kind a b m (state rows text s) e = rw e
 
-pub byte-stopped : (b : ℕ) (st : State) → eqb (sink_of st).stop 0 ≡ false → put_byte b st ≡ st
+pub byte_stopped : (b : ℕ) (st : State) → eqb (sink_of st).stop 0 ≡ false → put_byte b st ≡ st
 unfolding put_byte
-byte-stopped b (state rows text s) e = rw e
+byte_stopped b (state rows text s) e = rw e
 
-pub bytes-stopped : (bs : List ℕ) (st : State) → eqb (sink_of st).stop 0 ≡ false → put_bytes bs st ≡ st
+pub bytes_stopped : (bs : List ℕ) (st : State) → eqb (sink_of st).stop 0 ≡ false → put_bytes bs st ≡ st
 unfolding put_bytes
-bytes-stopped [] st e = refl
-bytes-stopped (b ∷ bs) st e = ap (put_bytes bs) (byte-stopped b st e) ∙ bytes-stopped bs st e
+bytes_stopped [] st e = refl
+bytes_stopped (b ∷ bs) st e = ap (put_bytes bs) (byte_stopped b st e) ∙ bytes_stopped bs st e
 
 names_stay : (place count : ℕ) (st : State) → eqb (sink_of st).stop 0 ≡ false → put_names place count st ≡ st
 unfolding put_names refuse
@@ -40,14 +40,14 @@ names_stay place count (state rows text s) e = go (leb count 1024)
     go true = refl
     go false = rw e
 
-pub emit-stopped : (d : Marked) (st : State) → eqb (sink_of st).stop 0 ≡ false → emit d st ≡ st
+pub emit_stopped : (d : Marked) (st : State) → eqb (sink_of st).stop 0 ≡ false → emit d st ≡ st
 unfolding emit put_text end_text put_break put_join put_wrapped
-emit-stopped (textᵐ s) st e = ap (end_text (sink_of st).text) (bytes-stopped s st e) ∙ row_stays _ _ _ _ st e
-emit-stopped (joinᵐ a b) st e = ap (λ (x : State). put_join (emit b x)) (emit-stopped a st e) ∙ ap put_join (emit-stopped b st e) ∙ row_stays _ _ _ _ st e
-emit-stopped (breakᵐ k) st e = row_stays _ _ _ _ st e
-emit-stopped (nestᵐ n d) st e = ap (put_nest n) (emit-stopped d st e) ∙ row_stays _ _ _ _ st e
-emit-stopped (groupᵐ d) st e = ap put_group (emit-stopped d st e) ∙ row_stays _ _ _ _ st e
-emit-stopped (names place count d) st e = ap (emit d) (names_stay place count st e) ∙ emit-stopped d st e
+emit_stopped (textᵐ s) st e = ap (end_text (sink_of st).text) (bytes_stopped s st e) ∙ row_stays _ _ _ _ st e
+emit_stopped (joinᵐ a b) st e = ap (λ (x : State). put_join (emit b x)) (emit_stopped a st e) ∙ ap put_join (emit_stopped b st e) ∙ row_stays _ _ _ _ st e
+emit_stopped (breakᵐ k) st e = row_stays _ _ _ _ st e
+emit_stopped (nestᵐ n d) st e = ap (put_nest n) (emit_stopped d st e) ∙ row_stays _ _ _ _ st e
+emit_stopped (groupᵐ d) st e = ap put_group (emit_stopped d st e) ∙ row_stays _ _ _ _ st e
+emit_stopped (names place count d) st e = ap (emit d) (names_stay place count st e) ∙ emit_stopped d st e
 
 -- ---- words
 

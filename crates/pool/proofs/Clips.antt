@@ -16,12 +16,12 @@ take_clip n l = cut (leb n (length l)) refl
     cut : (b : Bool) → leb n (length l) ≡ b → take (min n (length l)) l ≡ take n l
     cut true p = let h : min n (length l) ≡ n = omega (arith, leb-true n (length l) p) in ap (λ (k : ℕ). take k l) h
     cut false p =
-        let g : length l < n = leb-lt p in
+        let g : length l < n = leb_lt p in
         let h : min n (length l) ≡ length l = omega arith in
         ap (λ (k : ℕ). take k l) h ∙ take_all (length l) l (omega arith) ∙ sym (take_all n l (omega arith))
       where
-        leb-lt : leb n (length l) ≡ false → length l < n
-        leb-lt q = leb-false n (length l) q
+        leb_lt : leb n (length l) ≡ false → length l < n
+        leb_lt q = leb-false n (length l) q
 
 pub drop_all : (n : ℕ) (l : List ℕ) → length l ≤ n → drop n l ≡ []
 drop_all zero [] h = refl

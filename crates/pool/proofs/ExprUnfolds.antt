@@ -98,20 +98,20 @@ module _ (p : Pool) (r : ℕ) where
 
 -- ---- unfolding does not depend on the bound
 
-expr-node : (p : Pool) (f g : ℕ → Expr) (i : ℕ) (k : ExprKind) → expr_fields_ok p i k ≡ true → ((j : ℕ) → j < i → f j ≡ g j)
+expr_node_lem : (p : Pool) (f g : ℕ → Expr) (i : ℕ) (k : ExprKind) → expr_fields_ok p i k ≡ true → ((j : ℕ) → j < i → f j ≡ g j)
     → expr_node p f i k ≡ expr_node p g i k
 unfolding expr_node
-expr-node p f g i varᵏ ok e = refl
-expr-node p f g i sortᵏ ok e = refl
-expr-node p f g i constᵏ ok e = refl
-expr-node p f g i appᵏ ok e = let w = app_fields p i ok in ap₂ app (e _ w.0) (e _ w.1)
-expr-node p f g i piᵏ ok e = let w = pi_fields p i ok in rw (e _ w.2, e _ w.3)
-expr-node p f g i lamᵏ ok e = let w = lam_fields p i ok in rw (e _ w.2, e _ w.3)
-expr-node p f g i letᵏ ok e = let w = let_fields p i ok in rw (e _ w.1, e _ w.2, e _ w.3)
-expr-node p f g i projᵏ ok e = let w = proj_fields p i ok in rw (e _ w.2)
-expr-node p f g i natᵏ ok e = refl
-expr-node p f g i strᵏ ok e = refl
-expr-node p f g i noExprᵏ ok e = refl
+expr_node_lem p f g i varᵏ ok e = refl
+expr_node_lem p f g i sortᵏ ok e = refl
+expr_node_lem p f g i constᵏ ok e = refl
+expr_node_lem p f g i appᵏ ok e = let w = app_fields p i ok in ap₂ app (e _ w.0) (e _ w.1)
+expr_node_lem p f g i piᵏ ok e = let w = pi_fields p i ok in rw (e _ w.2, e _ w.3)
+expr_node_lem p f g i lamᵏ ok e = let w = lam_fields p i ok in rw (e _ w.2, e _ w.3)
+expr_node_lem p f g i letᵏ ok e = let w = let_fields p i ok in rw (e _ w.1, e _ w.2, e _ w.3)
+expr_node_lem p f g i projᵏ ok e = let w = proj_fields p i ok in rw (e _ w.2)
+expr_node_lem p f g i natᵏ ok e = refl
+expr_node_lem p f g i strᵏ ok e = refl
+expr_node_lem p f g i noExprᵏ ok e = refl
 
 -- the same tree at every bound above the row
 pub expr_bound : (p : Pool) (n : ℕ) → ExprsKept p n → (b c i : ℕ) → i < n → i < b → i < c → expr_to b p i ≡ expr_to c p i
@@ -119,22 +119,22 @@ unfolding expr_to
 expr_bound p n kept zero c i h hb hc = absurd (omega arith)
 expr_bound p n kept (suc b) zero i h hb hc = absurd (omega arith)
 expr_bound p n kept (suc b) (suc c) i h hb hc =
-    expr-node p (expr_to b p) (expr_to c p) i _ (kept i h) (λ j l. expr_bound p n kept b c j (omega arith) (omega arith) (omega arith))
+    expr_node_lem p (expr_to b p) (expr_to c p) i _ (kept i h) (λ j l. expr_bound p n kept b c j (omega arith) (omega arith) (omega arith))
 
 -- the tree of a row is its node over the trees of lower rows
 pub expr_unfolds_kept : (p : Pool) (n : ℕ) → ExprsKept p n → (r : ℕ) → r < n
     → expr_at p r ≡ expr_node p (expr_at p) r (expr_kind (expr_word p.words r 0))
 unfolding expr_at expr_to
 expr_unfolds_kept p n kept r h =
-    expr-node p (expr_to r p) (expr_at p) r _ (kept r h) (λ j l. expr_bound p n kept r (suc j) j (omega arith) l (omega arith))
+    expr_node_lem p (expr_to r p) (expr_at p) r _ (kept r h) (λ j l. expr_bound p n kept r (suc j) j (omega arith) l (omega arith))
 
-pub expr-kept : (p : Pool) → Sound p → ExprsKept p (E p.words)
+pub expr_kept : (p : Pool) → Sound p → ExprsKept p (E p.words)
 unfolding expr_ok
-expr-kept p sound j h = and_left (expr_fields_ok p j (expr_kind (expr_word p.words j 0))) _ (sound.exprs j h)
+expr_kept p sound j h = and_left (expr_fields_ok p j (expr_kind (expr_word p.words j 0))) _ (sound.exprs j h)
 
 pub expr_unfolds : (p : Pool) → Sound p → (r : ℕ) → r < E p.words
     → expr_at p r ≡ expr_node p (expr_at p) r (expr_kind (expr_word p.words r 0))
-expr_unfolds p sound r h = expr_unfolds_kept p (E p.words) (expr-kept p sound) r h
+expr_unfolds p sound r h = expr_unfolds_kept p (E p.words) (expr_kept p sound) r h
 
 -- ---- the words for depth and loose
 
@@ -178,7 +178,7 @@ module _ (p : Pool) (sound : Sound p) where
 
   -- the rules of a row, one by one
   pub fields_kept : (r : ℕ) → r < E p.words → expr_fields_ok p r (expr_kind (expr_word p.words r 0)) ≡ true
-  fields_kept = expr-kept p sound
+  fields_kept = expr_kept p sound
 
   others : (r : ℕ) → r < E p.words
       → eqb (expr_word p.words r 6) (depth_by p r (kind_at r)) && (leb (expr_word p.words r 6) 256 && eqb (expr_word p.words r 7) (loose_by p r (kind_at r))) ≡ true
@@ -205,18 +205,18 @@ module _ (p : Pool) (sound : Sound p) where
       ∙ node-depth p r (kind_at r) (fields_kept r h) (λ j l. depth_below b j (omega arith) (omega arith))
       ∙ sym (ap depth (expr_unfolds p sound r h))
 
-  loose-below : (b r : ℕ) → r < b → r < E p.words → expr_word p.words r 7 ≡ loose (expr_at p r)
-  loose-below zero r hb h = absurd (omega arith)
-  loose-below (suc b) r hb h =
+  loose_below : (b r : ℕ) → r < b → r < E p.words → expr_word p.words r 7 ≡ loose (expr_at p r)
+  loose_below zero r hb h = absurd (omega arith)
+  loose_below (suc b) r hb h =
       loose_by_lem r h
-      ∙ node-loose p r (kind_at r) (fields_kept r h) (λ j l. loose-below b j (omega arith) (omega arith))
+      ∙ node-loose p r (kind_at r) (fields_kept r h) (λ j l. loose_below b j (omega arith) (omega arith))
       ∙ sym (ap loose (expr_unfolds p sound r h))
 
   pub depth-word : (r : ℕ) → r < E p.words → expr_word p.words r 6 ≡ depth (expr_at p r)
   depth-word r h = depth_below (suc r) r (omega arith) h
 
   pub loose-word : (r : ℕ) → r < E p.words → expr_word p.words r 7 ≡ loose (expr_at p r)
-  loose-word r h = loose-below (suc r) r (omega arith) h
+  loose-word r h = loose_below (suc r) r (omega arith) h
 
 -- ---- the kind word is the tree's label
 
@@ -236,7 +236,7 @@ label_node p f r (suc (suc (suc (suc (suc (suc (suc (suc (suc (suc k)))))))))) o
 
 pub label_word : (p : Pool) → Sound p → (r : ℕ) → r < E p.words → label (shape (expr_at p r)) ≡ expr_word p.words r 0
 label_word p sound r h =
-    ap (λ (e : Expr). label (shape e)) (expr_unfolds p sound r h) ∙ label_node p (expr_at p) r _ (expr-kept p sound r h)
+    ap (λ (e : Expr). label (shape e)) (expr_unfolds p sound r h) ∙ label_node p (expr_at p) r _ (expr_kept p sound r h)
 
 -- ---- a row of each kind, by its number: its fields, and its tree
 
@@ -248,7 +248,7 @@ module _ (p : Pool) (sound : Sound p) (r : ℕ) (h : r < E p.words) where
   node_at k e = expr_unfolds p sound r h ∙ ap (λ (i : ℕ). expr_node p (expr_at p) r (expr_kind i)) e
 
   kept_at : (k : ℕ) → expr_word p.words r 0 ≡ k → expr_fields_ok p r (expr_kind k) ≡ true
-  kept_at k e = subst (λ (i : ℕ). expr_fields_ok p r (expr_kind i) ≡ true) e (expr-kept p sound r h)
+  kept_at k e = subst (λ (i : ℕ). expr_fields_ok p r (expr_kind i) ≡ true) e (expr_kept p sound r h)
 
   pub var_at : w 0 ≡ 0 → expr_at p r ≡ var (w 1)
   unfolding expr_kind expr_node
@@ -345,4 +345,4 @@ module _ (p : Pool) (sound : Sound p) (r : ℕ) (h : r < E p.words) where
   kind_below (suc (suc (suc (suc (suc (suc (suc (suc (suc (suc k)))))))))) ok = absurd (kind_known p r ok)
 
   pub kind_small : w 0 < 10
-  kind_small = kind_below (w 0) (expr-kept p sound r h)
+  kind_small = kind_below (w 0) (expr_kept p sound r h)

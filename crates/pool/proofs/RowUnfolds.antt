@@ -16,9 +16,9 @@ use Rattle.basics.proofs.Booleans.{and_left, and_right, false-true}
 use Rattle.pool.proofs.TreeLaws.{label}
 use Rattle.pool.proofs.Unfolds.{NamesKept, LevelsKept, name_unfolds, level_unfolds}
 
-pub name-kept : (p : Pool) → Sound p → NamesKept p (N p.names)
+pub name_kept : (p : Pool) → Sound p → NamesKept p (N p.names)
 unfolding name_ok
-name-kept p sound j h = and_left (name_fields_ok p.names j (name_kind (name_word p.names j 0))) _ (sound.names j h)
+name_kept p sound j h = and_left (name_fields_ok p.names j (name_kind (name_word p.names j 0))) _ (sound.names j h)
 
 pub level_kept : (p : Pool) → Sound p → LevelsKept p (L p.words)
 unfolding level_ok
@@ -28,9 +28,9 @@ level_kept p sound j h = and_left (level_fields_ok p j (level_kind (level_word p
 abbrev pub StringFits : Pool → ℕ → Type 0
 StringFits p r = string_word p.names r 0 + string_word p.names r 1 ≤ length p.bytes
 
-pub string-fits : (p : Pool) → Sound p → (r : ℕ) → r < S p.names → StringFits p r
+pub string_fits : (p : Pool) → Sound p → (r : ℕ) → r < S p.names → StringFits p r
 unfolding string_ok
-string-fits p sound r h =
+string_fits p sound r h =
     leb-true _ (length p.bytes)
     (and_left (leb (string_word p.names r 0 + string_word p.names r 1) (length p.bytes)) _ (sound.strings r h))
 
@@ -38,32 +38,32 @@ string-fits p sound r h =
 
 -- a name row by its kind: that what it refers to is there, and its tree
 pub data NameRow (p : Pool) (r : ℕ) : Type 0 where
-  is-anonymous : name_word p.names r 0 ≡ 0 → name_at p r ≡ anonymous → NameRow p r
-  is-string : name_word p.names r 0 ≡ 1 → name_word p.names r 1 < r → StringFits p (name_word p.names r 2)
+  is_anonymous_lem : name_word p.names r 0 ≡ 0 → name_at p r ≡ anonymous → NameRow p r
+  is_string_lem : name_word p.names r 0 ≡ 1 → name_word p.names r 1 < r → StringFits p (name_word p.names r 2)
       → name_at p r ≡ string (name_at p (name_word p.names r 1)) (string_at p (name_word p.names r 2)) → NameRow p r
-  is-number : name_word p.names r 0 ≡ 2 → name_word p.names r 1 < r
+  is_number_lem : name_word p.names r 0 ≡ 2 → name_word p.names r 1 < r
       → name_at p r ≡ number (name_at p (name_word p.names r 1)) (name_word p.names r 2 + name_word p.names r 3 * 2 ^ 32) → NameRow p r
 
 name_kind_of : {p : Pool} {r : ℕ} → NameRow p r → name_word p.names r 0 < 3
-name_kind_of (is-anonymous k e) = omega arith
-name_kind_of (is-string k l f e) = omega arith
-name_kind_of (is-number k l e) = omega arith
+name_kind_of (is_anonymous_lem k e) = omega arith
+name_kind_of (is_string_lem k l f e) = omega arith
+name_kind_of (is_number_lem k l e) = omega arith
 
 name_label_of : {p : Pool} {r : ℕ} → NameRow p r → label (name_shape (name_at p r)) ≡ name_word p.names r 0
 unfolding name_shape label
-name_label_of (is-anonymous k e) = ap (λ (n : Name). label (name_shape n)) e ∙ sym k
-name_label_of (is-string k l f e) = ap (λ (n : Name). label (name_shape n)) e ∙ sym k
-name_label_of (is-number k l e) = ap (λ (n : Name). label (name_shape n)) e ∙ sym k
+name_label_of (is_anonymous_lem k e) = ap (λ (n : Name). label (name_shape n)) e ∙ sym k
+name_label_of (is_string_lem k l f e) = ap (λ (n : Name). label (name_shape n)) e ∙ sym k
+name_label_of (is_number_lem k l e) = ap (λ (n : Name). label (name_shape n)) e ∙ sym k
 
 module _ (p : Pool) (sound : Sound p) (r : ℕ) (h : r < N p.names) where
   abbrev nw : ℕ → ℕ
   nw k = name_word p.names r k
 
   name_node_at : (k : ℕ) → nw 0 ≡ k → name_at p r ≡ name_node p (name_at p) r (name_kind k)
-  name_node_at k e = name_unfolds p (N p.names) (name-kept p sound) r h ∙ ap (λ (i : ℕ). name_node p (name_at p) r (name_kind i)) e
+  name_node_at k e = name_unfolds p (N p.names) (name_kept p sound) r h ∙ ap (λ (i : ℕ). name_node p (name_at p) r (name_kind i)) e
 
   name_kept_at : (k : ℕ) → nw 0 ≡ k → name_fields_ok p.names r (name_kind k) ≡ true
-  name_kept_at k e = subst (λ (i : ℕ). name_fields_ok p.names r (name_kind i) ≡ true) e (name-kept p sound r h)
+  name_kept_at k e = subst (λ (i : ℕ). name_fields_ok p.names r (name_kind i) ≡ true) e (name_kept p sound r h)
 
   pub anonymous_at : nw 0 ≡ 0 → name_at p r ≡ anonymous
   unfolding name_kind name_node
@@ -90,23 +90,23 @@ module _ (p : Pool) (sound : Sound p) (r : ℕ) (h : r < N p.names) where
 
   name_row_of : (k : ℕ) → nw 0 ≡ k → name_fields_ok p.names r (name_kind k) ≡ true → NameRow p r
   unfolding name_kind name_fields_ok
-  name_row_of zero e ok = is-anonymous e (anonymous_at e)
-  name_row_of (suc zero) e ok = is-string e (string_ok_lem e).0 (string-fits p sound (nw 2) (string_ok_lem e).1) (string_at_lem e)
-  name_row_of (suc (suc zero)) e ok = is-number e (number_ok e) (number_at e)
+  name_row_of zero e ok = is_anonymous_lem e (anonymous_at e)
+  name_row_of (suc zero) e ok = is_string_lem e (string_ok_lem e).0 (string_fits p sound (nw 2) (string_ok_lem e).1) (string_at_lem e)
+  name_row_of (suc (suc zero)) e ok = is_number_lem e (number_ok e) (number_at e)
   name_row_of (suc (suc (suc k))) e ok = false-true ok
 
-  pub name-row : NameRow p r
-  name-row = name_row_of (nw 0) refl (name-kept p sound r h)
+  pub name_row : NameRow p r
+  name_row = name_row_of (nw 0) refl (name_kept p sound r h)
 
   pub name_kind_small : nw 0 < 3
-  name_kind_small = name_kind_of name-row
+  name_kind_small = name_kind_of name_row
 
   pub name_label_word : label (name_shape (name_at p r)) ≡ nw 0
-  name_label_word = name_label_of name-row
+  name_label_word = name_label_of name_row
 
-  pub name-depth-small : name_depth (name_at p r) ≤ 64
+  pub name_depth_small : name_depth (name_at p r) ≤ 64
   unfolding name_ok
-  name-depth-small = leb-true _ 64 (and_right (name_fields_ok p.names r (name_kind (nw 0))) _ (sound.names r h))
+  name_depth_small = leb-true _ 64 (and_right (name_fields_ok p.names r (name_kind (nw 0))) _ (sound.names r h))
 
 -- ---- levels
 
@@ -114,7 +114,7 @@ module _ (p : Pool) (sound : Sound p) (r : ℕ) (h : r < N p.names) where
 pub data LevelRow (p : Pool) (r : ℕ) : Type 0 where
   is_zero : level_word p.words r 0 ≡ 0 → level_at p r ≡ zeroˡ → LevelRow p r
   is_succ : level_word p.words r 0 ≡ 1 → level_word p.words r 1 < r → level_at p r ≡ succˡ (level_at p (level_word p.words r 1)) → LevelRow p r
-  is-max : level_word p.words r 0 ≡ 2 → level_word p.words r 1 < r → level_word p.words r 2 < r
+  is_max : level_word p.words r 0 ≡ 2 → level_word p.words r 1 < r → level_word p.words r 2 < r
       → level_at p r ≡ maxˡ (level_at p (level_word p.words r 1)) (level_at p (level_word p.words r 2)) → LevelRow p r
   is_imax : level_word p.words r 0 ≡ 3 → level_word p.words r 1 < r → level_word p.words r 2 < r
       → level_at p r ≡ imaxˡ (level_at p (level_word p.words r 1)) (level_at p (level_word p.words r 2)) → LevelRow p r
@@ -124,7 +124,7 @@ pub data LevelRow (p : Pool) (r : ℕ) : Type 0 where
 level_kind_of : {p : Pool} {r : ℕ} → LevelRow p r → level_word p.words r 0 < 5
 level_kind_of (is_zero k e) = omega arith
 level_kind_of (is_succ k l e) = omega arith
-level_kind_of (is-max k l m e) = omega arith
+level_kind_of (is_max k l m e) = omega arith
 level_kind_of (is_imax k l m e) = omega arith
 level_kind_of (is_param k l e) = omega arith
 
@@ -132,7 +132,7 @@ level_label_of : {p : Pool} {r : ℕ} → LevelRow p r → label (level_shape (l
 unfolding level_shape label
 level_label_of (is_zero k e) = ap (λ (n : Level). label (level_shape n)) e ∙ sym k
 level_label_of (is_succ k l e) = ap (λ (n : Level). label (level_shape n)) e ∙ sym k
-level_label_of (is-max k l m e) = ap (λ (n : Level). label (level_shape n)) e ∙ sym k
+level_label_of (is_max k l m e) = ap (λ (n : Level). label (level_shape n)) e ∙ sym k
 level_label_of (is_imax k l m e) = ap (λ (n : Level). label (level_shape n)) e ∙ sym k
 level_label_of (is_param k l e) = ap (λ (n : Level). label (level_shape n)) e ∙ sym k
 
@@ -194,7 +194,7 @@ module _ (p : Pool) (sound : Sound p) (r : ℕ) (h : r < L p.words) where
   unfolding level_kind level_fields_ok
   level_row_of zero e ok = is_zero e (zero_at e)
   level_row_of (suc zero) e ok = is_succ e (succ_ok e) (succ_at e)
-  level_row_of (suc (suc zero)) e ok = is-max e (max_ok e).0 (max_ok e).1 (max_at e)
+  level_row_of (suc (suc zero)) e ok = is_max e (max_ok e).0 (max_ok e).1 (max_at e)
   level_row_of (suc (suc (suc zero))) e ok = is_imax e (imax_ok e).0 (imax_ok e).1 (imax_at e)
   level_row_of (suc (suc (suc (suc zero)))) e ok = is_param e (param_ok e) (param_at e)
   level_row_of (suc (suc (suc (suc (suc k))))) e ok = false-true ok

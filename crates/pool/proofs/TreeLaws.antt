@@ -19,23 +19,23 @@ index_none : (b : Bool) (i : ℕ) → cond b i (i + 0) ≡ i
 index_none true i = refl
 index_none false i = omega arith
 
-pub lift-none : (c : ℕ) (e : Expr) → lift 0 c e ≡ e
+pub lift_none : (c : ℕ) (e : Expr) → lift 0 c e ≡ e
 unfolding lift
-lift-none c (var i) = ap var (index_none (ltb i c) i)
-lift-none c (sort l) = refl
-lift-none c (const n ls) = refl
-lift-none c (app f a) = ap₂ app (lift-none c f) (lift-none c a)
-lift-none c (pi p n s t b) = ap₂ (pi p n s) (lift-none c t) (lift-none (suc c) b)
-lift-none c (lam p n s t b) = ap₂ (lam p n s) (lift-none c t) (lift-none (suc c) b)
-lift-none c (letᵉ p n t v b d) = rw (lift-none c t, lift-none c v, lift-none (suc c) b)
-lift-none c (proj n i e) = ap (proj n i) (lift-none c e)
-lift-none c (nat s) = refl
-lift-none c (str s) = refl
+lift_none c (var i) = ap var (index_none (ltb i c) i)
+lift_none c (sort l) = refl
+lift_none c (const n ls) = refl
+lift_none c (app f a) = ap₂ app (lift_none c f) (lift_none c a)
+lift_none c (pi p n s t b) = ap₂ (pi p n s) (lift_none c t) (lift_none (suc c) b)
+lift_none c (lam p n s t b) = ap₂ (lam p n s) (lift_none c t) (lift_none (suc c) b)
+lift_none c (letᵉ p n t v b d) = rw (lift_none c t, lift_none c v, lift_none (suc c) b)
+lift_none c (proj n i e) = ap (proj n i) (lift_none c e)
+lift_none c (nat s) = refl
+lift_none c (str s) = refl
 
 -- the index that a lifted variable has
-pub lift-var-low : (n c i : ℕ) → i < c → lift n c (var i) ≡ var i
+pub lift_var_low : (n c i : ℕ) → i < c → lift n c (var i) ≡ var i
 unfolding lift
-lift-var-low n c i h = rw (lt-ltb i c h)
+lift_var_low n c i h = rw (lt-ltb i c h)
 
 pub lift_var_high : (n c i : ℕ) → c ≤ i → lift n c (var i) ≡ var (i + n)
 unfolding lift
@@ -47,7 +47,7 @@ index_twice n m c i = by (ltb i c) refl
     by : (b : Bool) → ltb i c ≡ b → lift n c (lift m c (var i)) ≡ lift (m + n) c (var i)
     by true e =
         let h : i < c = ltb-true i c e in
-        ap (lift n c) (lift-var-low m c i h) ∙ lift-var-low n c i h ∙ sym (lift-var-low (m + n) c i h)
+        ap (lift n c) (lift_var_low m c i h) ∙ lift_var_low n c i h ∙ sym (lift_var_low (m + n) c i h)
     by false e =
         let h : c ≤ i = ltb-false i c e in
         let q : i + m + n ≡ i + (m + n) = omega arith in
@@ -163,8 +163,8 @@ none_above k (proj n i e) h = none_above k e h
 none_above k (nat s) h = refl
 none_above k (str s) h = refl
 
-pub occurs-below : (k : ℕ) (e : Expr) → occurs k e ≡ true → k < loose e
-occurs-below k e h = by (ltb k (loose e)) refl
+pub occurs_below : (k : ℕ) (e : Expr) → occurs k e ≡ true → k < loose e
+occurs_below k e h = by (ltb k (loose e)) refl
   where
     by : (b : Bool) → ltb k (loose e) ≡ b → k < loose e
     by true q = ltb-true k (loose e) q
@@ -201,7 +201,7 @@ greatest_occurs k (str s) h = absurd (omega arith)
 -- lifting from `loose` on changes nothing
 pub lift_closed : (n c : ℕ) (e : Expr) → loose e ≤ c → lift n c e ≡ e
 unfolding loose lift
-lift_closed n c (var i) h = lift-var-low n c i h
+lift_closed n c (var i) h = lift_var_low n c i h
 lift_closed n c (sort l) h = refl
 lift_closed n c (const a ls) h = refl
 lift_closed n c (app f a) h = ap₂ app (lift_closed n c f (omega arith)) (lift_closed n c a (omega arith))
@@ -258,7 +258,7 @@ unfolding loose
 raised_var n c i = by (sides c (suc i))
   where
     by : Sides c (suc i) → loose (lift n c (var i)) ≡ raised n c (suc i)
-    by (low p) = ap loose (lift-var-low n c i p) ∙ sym (raised_low n c (suc i) p)
+    by (low p) = ap loose (lift_var_low n c i p) ∙ sym (raised_low n c (suc i) p)
     by (high p) =
         let q : suc (i + n) ≡ suc i + n = omega arith in
         ap loose (lift_var_high n c i (omega arith)) ∙ q ∙ sym (raised_high n c (suc i) p)
@@ -291,29 +291,29 @@ lift-loose n c (str s) = sym (raised_zero n c)
 
 -- ---- equality of shapes
 
-pub bytes-equal : (a b : List ℕ) → same_bytes a b ≡ true → a ≡ b
+pub bytes_equal : (a b : List ℕ) → same_bytes a b ≡ true → a ≡ b
 unfolding same_bytes
-bytes-equal [] [] h = refl
-bytes-equal [] (y ∷ ys) h = false-true h
-bytes-equal (x ∷ xs) [] h = false-true h
-bytes-equal (x ∷ xs) (y ∷ ys) h =
-    ap₂ (λ (z : ℕ) (zs : List ℕ). z ∷ zs) (eqb-true x y (and_left (eqb x y) _ h)) (bytes-equal xs ys (and_right (eqb x y) _ h))
+bytes_equal [] [] h = refl
+bytes_equal [] (y ∷ ys) h = false-true h
+bytes_equal (x ∷ xs) [] h = false-true h
+bytes_equal (x ∷ xs) (y ∷ ys) h =
+    ap₂ (λ (z : ℕ) (zs : List ℕ). z ∷ zs) (eqb-true x y (and_left (eqb x y) _ h)) (bytes_equal xs ys (and_right (eqb x y) _ h))
 
 pub bytes_same : (a : List ℕ) → same_bytes a a ≡ true
 unfolding same_bytes
 bytes_same [] = refl
 bytes_same (x ∷ xs) = rw (eq-eqb x x refl) (bytes_same xs)
 
-node-equal : (k l : ℕ) (a b : List ℕ) (xs ys : Shapes) → k ≡ l → a ≡ b → xs ≡ ys → node k a xs ≡ node l b ys
-node-equal k l a b xs ys p q r = cc
+node_equal : (k l : ℕ) (a b : List ℕ) (xs ys : Shapes) → k ≡ l → a ≡ b → xs ≡ ys → node k a xs ≡ node l b ys
+node_equal k l a b xs ys p q r = cc
 
 mutual
   unfolding same_shape
 
-  pub shape-equal : (x y : Shape) → same_shape x y ≡ true → x ≡ y
-  shape-equal (node k a xs) (node l b ys) h =
-      node-equal k l a b xs ys (eqb-true k l (and_left (eqb k l) _ h))
-      (bytes-equal a b (and_left (same_bytes a b) _ (and_right (eqb k l) _ h)))
+  pub shape_equal : (x y : Shape) → same_shape x y ≡ true → x ≡ y
+  shape_equal (node k a xs) (node l b ys) h =
+      node_equal k l a b xs ys (eqb-true k l (and_left (eqb k l) _ h))
+      (bytes_equal a b (and_left (same_bytes a b) _ (and_right (eqb k l) _ h)))
       (shapes_equal xs ys (and_right (same_bytes a b) _ (and_right (eqb k l) _ h)))
 
   pub shapes_equal : (xs ys : Shapes) → same_shapes xs ys ≡ true → xs ≡ ys
@@ -321,7 +321,7 @@ mutual
   shapes_equal none (y and ys) h = false-true h
   shapes_equal (x and xs) none h = false-true h
   shapes_equal (x and xs) (y and ys) h =
-      ap₂ ◌and◌ (shape-equal x y (and_left (same_shape x y) _ h)) (shapes_equal xs ys (and_right (same_shape x y) _ h))
+      ap₂ ◌and◌ (shape_equal x y (and_left (same_shape x y) _ h)) (shapes_equal xs ys (and_right (same_shape x y) _ h))
 
 mutual
   unfolding same_shape
@@ -441,17 +441,17 @@ forget-shape (str s) = refl
 
 -- ---- equality of trees
 
-pub name-equal : (a b : Name) → same_shape (name_shape a) (name_shape b) ≡ true → a ≡ b
-name-equal a b h = sym (name_back a) ∙ ap unname (shape-equal (name_shape a) (name_shape b) h) ∙ name_back b
+pub name_equal : (a b : Name) → same_shape (name_shape a) (name_shape b) ≡ true → a ≡ b
+name_equal a b h = sym (name_back a) ∙ ap unname (shape_equal (name_shape a) (name_shape b) h) ∙ name_back b
 
 pub level_equal : (a b : Level) → same_shape (level_shape a) (level_shape b) ≡ true → a ≡ b
-level_equal a b h = sym (level_back a) ∙ ap unlevel (shape-equal (level_shape a) (level_shape b) h) ∙ level_back b
+level_equal a b h = sym (level_back a) ∙ ap unlevel (shape_equal (level_shape a) (level_shape b) h) ∙ level_back b
 
-pub levels-equal : (a b : List Level) → same_shapes (level_shapes a) (level_shapes b) ≡ true → a ≡ b
-levels-equal a b h = sym (levels_back a) ∙ ap unlevels (shapes_equal (level_shapes a) (level_shapes b) h) ∙ levels_back b
+pub levels_equal_lem : (a b : List Level) → same_shapes (level_shapes a) (level_shapes b) ≡ true → a ≡ b
+levels_equal_lem a b h = sym (levels_back a) ∙ ap unlevels (shapes_equal (level_shapes a) (level_shapes b) h) ∙ levels_back b
 
 pub same_forgets : (a b : Expr) → same a b ≡ true → forget a ≡ forget b
-same_forgets a b h = sym (expr_back a) ∙ ap unshape (shape-equal (shape a) (shape b) h) ∙ expr_back b
+same_forgets a b h = sym (expr_back a) ∙ ap unshape (shape_equal (shape a) (shape b) h) ∙ expr_back b
 
 pub forgets_same : (a b : Expr) → forget a ≡ forget b → same a b ≡ true
 forgets_same a b h =

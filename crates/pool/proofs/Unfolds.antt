@@ -31,14 +31,14 @@ abbrev pub ExprsKept : Pool → ℕ → Type 0
 ExprsKept p n = (j : ℕ) → j < n → expr_fields_ok p j (expr_kind (expr_word p.words j 0)) ≡ true
 
 -- a node looks at lower rows only
-name-node : (p : Pool) (f g : ℕ → Name) (i : ℕ) (k : NameKind) → name_fields_ok p.names i k ≡ true → ((j : ℕ) → j < i → f j ≡ g j)
+name_node_lem : (p : Pool) (f g : ℕ → Name) (i : ℕ) (k : NameKind) → name_fields_ok p.names i k ≡ true → ((j : ℕ) → j < i → f j ≡ g j)
     → name_node p f i k ≡ name_node p g i k
 unfolding name_node name_fields_ok
-name-node p f g i anonymousᵏ ok e = refl
-name-node p f g i stringᵏ ok e =
+name_node_lem p f g i anonymousᵏ ok e = refl
+name_node_lem p f g i stringᵏ ok e =
     ap (λ (n : Name). string n (string_at p (name_word p.names i 2))) (e _ (ltb-true (name_word p.names i 1) i (and_left (ltb (name_word p.names i 1) i) _ ok)))
-name-node p f g i numberᵏ ok e = ap (λ (n : Name). number n (name_word p.names i 2 + name_word p.names i 3 * 2 ^ 32)) (e _ (ltb-true (name_word p.names i 1) i ok))
-name-node p f g i noNameᵏ ok e = refl
+name_node_lem p f g i numberᵏ ok e = ap (λ (n : Name). number n (name_word p.names i 2 + name_word p.names i 3 * 2 ^ 32)) (e _ (ltb-true (name_word p.names i 1) i ok))
+name_node_lem p f g i noNameᵏ ok e = refl
 
 -- the same tree at every bound above the row
 pub name_bound : (p : Pool) (n : ℕ) → NamesKept p n → (b c i : ℕ) → i < n → i < b → i < c → name_to b p i ≡ name_to c p i
@@ -46,13 +46,13 @@ unfolding name_to
 name_bound p n kept zero c i h hb hc = absurd (omega arith)
 name_bound p n kept (suc b) zero i h hb hc = absurd (omega arith)
 name_bound p n kept (suc b) (suc c) i h hb hc =
-    name-node p (name_to b p) (name_to c p) i _ (kept i h) (λ j l. name_bound p n kept b c j (omega arith) (omega arith) (omega arith))
+    name_node_lem p (name_to b p) (name_to c p) i _ (kept i h) (λ j l. name_bound p n kept b c j (omega arith) (omega arith) (omega arith))
 
 -- the tree of a name row is its node over the trees of lower rows
 pub name_unfolds : (p : Pool) (n : ℕ) → NamesKept p n → (r : ℕ) → r < n → name_at p r ≡ name_node p (name_at p) r (name_kind (name_word p.names r 0))
 unfolding name_at name_to
 name_unfolds p n kept r h =
-    name-node p (name_to r p) (name_at p) r _ (kept r h) (λ j l. name_bound p n kept r (suc j) j (omega arith) l (omega arith))
+    name_node_lem p (name_to r p) (name_at p) r _ (kept r h) (λ j l. name_bound p n kept r (suc j) j (omega arith) l (omega arith))
 
 level_node_lem : (p : Pool) (f g : ℕ → Level) (i : ℕ) (k : LevelKind) → level_fields_ok p i k ≡ true → ((j : ℕ) → j < i → f j ≡ g j)
     → level_node p f i k ≡ level_node p g i k
@@ -125,21 +125,21 @@ NameLearnt p r d = (name_ok p r ≡ true) × (d ≡ name_depth (name_at p r)) ×
 module _ (p : Pool) (ds : List ℕ) (r d : ℕ) (kept : NamesKept p r) (known : (j : ℕ) → j < r → get_or ds j 0 ≡ name_depth (name_at p j))
     (v : Bool) (ev : v ≡ name_fields_ok p.names r (name_kind (name_word p.names r 0))) (y : v ≡ true)
     (e : d ≡ name_depth_by p.names ds r (name_kind (name_word p.names r 0))) where
-  name-kept-here : name_fields_ok p.names r (name_kind (name_word p.names r 0)) ≡ true
-  name-kept-here = sym ev ∙ y
+  name_kept_here : name_fields_ok p.names r (name_kind (name_word p.names r 0)) ≡ true
+  name_kept_here = sym ev ∙ y
 
-  name-depth-is : d ≡ name_depth (name_at p r)
-  name-depth-is =
-      e ∙ name_depth_at p ds r _ name-kept-here known
-      ∙ sym (ap name_depth (name_unfolds p (suc r) (kept_more (λ (j : ℕ). name_fields_ok p.names j (name_kind (name_word p.names j 0))) r kept name-kept-here) r (omega arith)))
+  name_depth_is : d ≡ name_depth (name_at p r)
+  name_depth_is =
+      e ∙ name_depth_at p ds r _ name_kept_here known
+      ∙ sym (ap name_depth (name_unfolds p (suc r) (kept_more (λ (j : ℕ). name_fields_ok p.names j (name_kind (name_word p.names j 0))) r kept name_kept_here) r (omega arith)))
 
   pub name_learnt : d ≤ 64 → NameLearnt p r d
   unfolding name_ok
-  name_learnt h = (rw (name-kept-here, ← name-depth-is, le-leb d 64 h), name-depth-is, name-kept-here)
+  name_learnt h = (rw (name_kept_here, ← name_depth_is, le-leb d 64 h), name_depth_is, name_kept_here)
 
   pub name_deep : 64 < d → name_ok p r ≡ false
   unfolding name_ok
-  name_deep h = rw (name-kept-here, ← name-depth-is, lt-leb d 64 h)
+  name_deep h = rw (name_kept_here, ← name_depth_is, lt-leb d 64 h)
 
 pub name_bad : (p : Pool) (r : ℕ) (v : Bool) → v ≡ name_fields_ok p.names r (name_kind (name_word p.names r 0)) → v ≡ false → name_ok p r ≡ false
 unfolding name_ok

@@ -20,8 +20,8 @@ given bytes names words = over bytes.now names.now words.now
 pub record NamesOf (ns : List ℕ) (t : Tables) : Type 0 where
   pub strings : t.strings ≡ S ns
   pub names : t.names ≡ N ns
-  pub strings-small : t.strings < 4294967296
-  pub names-small : t.names < 4294967296
+  pub strings_small : t.strings < 4294967296
+  pub names_small : t.names < 4294967296
   pub names_at : t.names_at ≡ names_at ns
 
 -- of the words that hold the rest

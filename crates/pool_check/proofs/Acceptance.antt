@@ -74,9 +74,9 @@ strings_never : (r : ℕ) → Strings r ≡ Accepted → ⊥
 strings_never r h = let z : ◌≡◌ {A = ℕ} 0 1 = cc in omega arith
 
 -- no row is refused: every row keeps its rule
-pub rows-accepted : (p : Pool) → rows_verdict p ≡ Accepted → Sound p
+pub rows_accepted : (p : Pool) → rows_verdict p ≡ Accepted → Sound p
 unfolding rows_verdict
-rows-accepted p h =
+rows_accepted p h =
     let a = table_passed (string_ok p) (S p.names) Strings _ strings_never h in
     let b = table_passed (name_ok p) (N p.names) Rows _ rows_never a.1 in
     let c = table_passed (level_ok p) (L p.words) Rows _ rows_never b.1 in
@@ -114,23 +114,23 @@ accepted bs ws h = by (words_ok ws) (limits_ok bs ws) refl refl h
   where
     by : (a b : Bool) → words_ok ws ≡ a → limits_ok bs ws ≡ b → cond a (cond b (rows_verdict (pool bs ws)) (refusal 2 0)) (refusal 1 0) ≡ Accepted
         → Limited bs ws × Sound (pool bs ws)
-    by true true u v k = (limited bs ws u v, rows-accepted (pool bs ws) k)
+    by true true u v k = (limited bs ws u v, rows_accepted (pool bs ws) k)
     by true false u v k = absurd (let z : ◌≡◌ {A = ℕ} 0 1 = cc in omega arith)
     by false b u v k = absurd (let z : ◌≡◌ {A = ℕ} 0 1 = cc in omega arith)
 
-pub accepted-is : (v : Verdict) → is_accepted v ≡ true → v ≡ Accepted
+pub accepted_is : (v : Verdict) → is_accepted v ≡ true → v ≡ Accepted
 unfolding is_accepted number
-accepted-is Accepted e = refl
-accepted-is Words e = false-true e
-accepted-is Limit e = false-true e
-accepted-is (Strings row) e = false-true e
-accepted-is (Rows row) e = false-true e
+accepted_is Accepted e = refl
+accepted_is Words e = false-true e
+accepted_is Limit e = false-true e
+accepted_is (Strings row) e = false-true e
+accepted_is (Rows row) e = false-true e
 
 -- what the code's last arm knows: the verdict is none of the cases before it
-pub refused-is : (v : Verdict) → (v ≡ Accepted → ⊥) → false ≡ is_accepted v
+pub refused_is : (v : Verdict) → (v ≡ Accepted → ⊥) → false ≡ is_accepted v
 unfolding is_accepted number
-refused-is Accepted other = absurd (other refl)
-refused-is Words other = refl
-refused-is Limit other = refl
-refused-is (Strings row) other = refl
-refused-is (Rows row) other = refl
+refused_is Accepted other = absurd (other refl)
+refused_is Words other = refl
+refused_is Limit other = refl
+refused_is (Strings row) other = refl
+refused_is (Rows row) other = refl

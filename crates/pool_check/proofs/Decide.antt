@@ -9,12 +9,12 @@ use Rattle.pool.specs.Kinds.{name_kind, noNameᵏ, level_kind, noLevelᵏ}
 use Rattle.pool.specs.Unfold.{has_value}
 use Rattle.pool.specs.Depths.{level_depth_by}
 
-pub name-none : (k : ℕ) → (k ≡ 0 → ⊥) → (k ≡ 1 → ⊥) → (k ≡ 2 → ⊥) → name_kind k ≡ noNameᵏ
+pub name_none : (k : ℕ) → (k ≡ 0 → ⊥) → (k ≡ 1 → ⊥) → (k ≡ 2 → ⊥) → name_kind k ≡ noNameᵏ
 unfolding name_kind
-name-none zero a b c = absurd (a refl)
-name-none (suc zero) a b c = absurd (b refl)
-name-none (suc (suc zero)) a b c = absurd (c refl)
-name-none (suc (suc (suc k))) a b c = refl
+name_none zero a b c = absurd (a refl)
+name_none (suc zero) a b c = absurd (b refl)
+name_none (suc (suc zero)) a b c = absurd (c refl)
+name_none (suc (suc (suc k))) a b c = refl
 
 pub level_none : (k : ℕ) → (k ≡ 0 → ⊥) → (k ≡ 1 → ⊥) → (k ≡ 2 → ⊥) → (k ≡ 3 → ⊥) → (k ≡ 4 → ⊥) → level_kind k ≡ noLevelᵏ
 unfolding level_kind
@@ -39,8 +39,8 @@ module _ (k value exprs : ℕ) where
   pub value_before : k < 2 → eqb value 0 ≡ cond (has_value k) (ltb value exprs) (eqb value 0)
   value_before h = rw (lt-leb 2 k h)
 
-  pub value-used : 2 ≤ k → k < 5 → ltb value exprs ≡ cond (has_value k) (ltb value exprs) (eqb value 0)
-  value-used g h = rw (le-leb 2 k g, lt-ltb k 5 h)
+  pub value_used : 2 ≤ k → k < 5 → ltb value exprs ≡ cond (has_value k) (ltb value exprs) (eqb value 0)
+  value_used g h = rw (le-leb 2 k g, lt-ltb k 5 h)
 
   pub value_after : 2 ≤ k → 5 ≤ k → eqb value 0 ≡ cond (has_value k) (ltb value exprs) (eqb value 0)
   value_after g h = rw (le-leb 2 k g, le-ltb k 5 h)

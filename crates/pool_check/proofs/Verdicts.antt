@@ -21,8 +21,8 @@ module _ (ok : ℕ → Bool) (count : ℕ) (refused : ℕ → Verdict) (next : V
   in_table_lem b h =
       ap₂ (λ (i n : ℕ). cond (ltb i n) (refused i) next) (sym first) (sym e) ∙ ap (λ (x : Bool). cond x (refused r) next) h
 
-  pub refused-here : r < c → refused r ≡ in_table ok count refused next
-  refused-here h = sym (in_table_lem true (lt-ltb r c h))
+  pub refused_here : r < c → refused r ≡ in_table ok count refused next
+  refused_here h = sym (in_table_lem true (lt-ltb r c h))
 
   pub passed_on : c ≤ r → next ≡ in_table ok count refused next
   passed_on h = sym (in_table_lem false (le-ltb r c h))
@@ -32,9 +32,9 @@ module _ (bs ws : List ℕ) (t : Tables) (h : TablesOf ws ws t) (b : Bool) (eb :
   words_ok_lem : b ≡ words_ok ws
   words_ok_lem = eb ∙ ap (λ (n : ℕ). leb 7 (length ws) && eqb n (length ws)) h.of_words.total
 
-  pub verdict-words : b ≡ false → Words ≡ verdict bs ws
+  pub verdict_words : b ≡ false → Words ≡ verdict bs ws
   unfolding verdict
-  verdict-words y = sym (ap (λ (x : Bool). cond x (cond (limits_ok bs ws) (rows_verdict (pool bs ws)) Limit) Words) (sym words_ok_lem ∙ y))
+  verdict_words y = sym (ap (λ (x : Bool). cond x (cond (limits_ok bs ws) (rows_verdict (pool bs ws)) Limit) Words) (sym words_ok_lem ∙ y))
 
   module _ (y : b ≡ true) (l : Bool) (el : l ≡ limits t (length bs)) where
     limits_ok_lem : l ≡ limits_ok bs ws
@@ -52,5 +52,5 @@ module _ (bs ws : List ℕ) (t : Tables) (h : TablesOf ws ws t) (b : Bool) (eb :
     pub verdict_limit : l ≡ false → Limit ≡ verdict bs ws
     verdict_limit z = sym (past_words false z)
 
-    pub verdict-rows : l ≡ true → (v : Verdict) → v ≡ rows_verdict (pool bs ws) → v ≡ verdict bs ws
-    verdict-rows z v e = e ∙ sym (past_words true z)
+    pub verdict_rows : l ≡ true → (v : Verdict) → v ≡ rows_verdict (pool bs ws) → v ≡ verdict bs ws
+    verdict_rows z v e = e ∙ sym (past_words true z)

@@ -46,18 +46,18 @@ args_depth k (proj n i e) others h t = t
 args_depth k (nat s) others h t = t
 args_depth k (str s) others h t = t
 
-pub body-depth : (e : Expr) → depth (chain_body e) ≤ depth e
+pub body_depth : (e : Expr) → depth (chain_body e) ≤ depth e
 unfolding chain_body depth
-body-depth (var i) = omega arith
-body-depth (sort l) = omega arith
-body-depth (const n ls) = omega arith
-body-depth (app f a) = omega arith
-body-depth (pi p n s t b) = omega (arith, body-depth b)
-body-depth (lam p n s t b) = omega (arith, body-depth b)
-body-depth (letᵉ p n t v b d) = omega arith
-body-depth (proj n i e) = omega arith
-body-depth (nat s) = omega arith
-body-depth (str s) = omega arith
+body_depth (var i) = omega arith
+body_depth (sort l) = omega arith
+body_depth (const n ls) = omega arith
+body_depth (app f a) = omega arith
+body_depth (pi p n s t b) = omega (arith, body_depth b)
+body_depth (lam p n s t b) = omega (arith, body_depth b)
+body_depth (letᵉ p n t v b d) = omega arith
+body_depth (proj n i e) = omega arith
+body_depth (nat s) = omega arith
+body_depth (str s) = omega arith
 
 abbrev pub TypeWithin : ℕ → Binder → Type 0
 TypeWithin k b = depth b.type ≤ k
@@ -183,12 +183,12 @@ step opts m n below ns (pi p a s t b) h k =
     let bs : List Binder = binders (pi p a s t b) in
     chain_bound opts m n below (pushed bs ns) bs (length ns) (chain_body b)
     (types_depth m (pi p a s t b) h) (types_depth n (pi p a s t b) k)
-    (omega (arith, body-depth b)) (omega (arith, body-depth b))
+    (omega (arith, body_depth b)) (omega (arith, body_depth b))
 step opts m n below ns (lam p a s t b) h k =
     let bs : List Binder = binders (lam p a s t b) in
     chain_bound opts m n below (pushed bs ns) bs (length ns) (chain_body b)
     (types_depth m (lam p a s t b) h) (types_depth n (lam p a s t b) k)
-    (omega (arith, body-depth b)) (omega (arith, body-depth b))
+    (omega (arith, body_depth b)) (omega (arith, body_depth b))
 step opts m n below ns (letᵉ p a t v b d) h k =
     rw (below ns t (omega arith) (omega arith), below ns v (omega arith) (omega arith), below (a ∷ ns) b (omega arith) (omega arith))
 step opts m n below ns (proj a i e) h k = rw (below ns e (omega arith) (omega arith))

@@ -19,7 +19,7 @@ use Rattle.names.specs.Names.{name_doc}
 use Rattle.levels.specs.Levels.{sort_doc}
 use Rattle.pieces.specs.Parens.{open_if, close_if}
 use Rattle.pieces.specs.Tiles.{end_tile}
-use Rattle.pieces.proofs.Emitting.{under_emits, emit-stopped}
+use Rattle.pieces.proofs.Emitting.{under_emits, emit_stopped}
 use Rattle.utf8.specs.Quoted.{bytes}
 use Rattle.document.proofs.Steps.{stays_join}
 use Rattle.binders.specs.declared.stack.Entry.{Entry}
@@ -37,8 +37,8 @@ use Rattle.binders.specs.Leaves.{leaf_kind, leaf_doc}
 use Rattle.pieces.specs.Puts.{end_proj, start_let, put_assign, end_let}
 use Rattle.binders.specs.Steps.{level_of}
 use Rattle.binders.proofs.RenameLaws.{rename_agrees, own_variable}
-use Rattle.binders.proofs.ScopeLaws.{chain_is_scoped, body-is-scoped, names_are_pushed, chain_under, grown-names, let_scope, push-last, push-grown}
-use Rattle.pretty_printer.proofs.ExprLaws.{prints-var, prints-sort, prints-const, prints-nat, prints-str, prints-proj, prints-app, prints-pi, prints-lam}
+use Rattle.binders.proofs.ScopeLaws.{chain_is_scoped, body_is_scoped, names_are_pushed, chain_under, grown_names, let_scope, push_last, push_grown}
+use Rattle.pretty_printer.proofs.ExprLaws.{prints_var, prints_sort, prints_const, prints_nat, prints_str, prints_proj, prints_app, prints_pi, prints_lam}
 use Rattle.pretty_printer.proofs.ExprLaws.{prints_let}
 use Rattle.pretty_printer.proofs.EmitLaws.{app_is_spine}
 use Rattle.binders.proofs.ViewLaws.{first_made}
@@ -65,14 +65,14 @@ wrapped : (opts : PpOptions) (d : Marked) (v : Bool) (st : State) → close_if v
 unfolding emit
 wrapped opts d v st = refl
 
-names-length : (p : Pool) (k : Stack) (n : ℕ) → length (names_below p k n) ≡ n
+names_length : (p : Pool) (k : Stack) (n : ℕ) → length (names_below p k n) ≡ n
 unfolding names_below
-names-length p k zero = refl
-names-length p k (suc n) = ap suc (names-length p k n)
+names_length p k zero = refl
+names_length p k (suc n) = ap suc (names_length p k n)
 
-pub names-counted : (p : Pool) (k : Stack) → length (names_of p k) ≡ k.count
+pub names_counted : (p : Pool) (k : Stack) → length (names_of p k) ≡ k.count
 unfolding names_of
-names-counted p k = names-length p k k.count
+names_counted p k = names_length p k k.count
 
 module _ (opts : PpOptions) (p : Pool) (k : Stack) (h : ℕ) where
   -- what a let puts, inside its parentheses
@@ -82,51 +82,51 @@ module _ (opts : PpOptions) (p : Pool) (k : Stack) (h : ℕ) where
       ≡ close_if w (put_group (put_join (let_body opts p k h q n b (let_head opts p k h n t v (open_if w st)))))
   unfolding let_par emit let_body let_head in_scope end_let put_assign put_colon start_let join_line join_piece quoted
   let_puts q n t v b w st =
-      let c : suc (length (names_of p k)) ≡ k.count + 1 = omega (arith, names-counted p k) in rw c
+      let c : suc (length (names_of p k)) ≡ k.count + 1 = omega (arith, names_counted p k) in rw c
 
   -- ---- without parts
 
-  pub var-prints : (outer i : ℕ) (st : State) → outer ≤ 1024 →
+  pub var_prints : (outer i : ℕ) (st : State) → outer ≤ 1024 →
       emit (var_doc (names_of p k) (place_in k h i) (place_in k h i)) st ≡ emit (under outer (in_scope opts p k h (var i))) st
   unfolding in_scope rename
-  var-prints outer i st l = rw (prints-var opts (names_of p k) (place_in k h i), under_top outer (with_inner 1024 (var_doc (names_of p k) (place_in k h i) (place_in k h i))) l refl)
+  var_prints outer i st l = rw (prints_var opts (names_of p k) (place_in k h i), under_top outer (with_inner 1024 (var_doc (names_of p k) (place_in k h i) (place_in k h i))) l refl)
 
   pub leaf_prints : (outer : ℕ) (e : Expr) (st : State) → outer ≤ 1024 → leaf_kind (label (shape e)) ≡ true →
       emit (leaf_doc e) st ≡ emit (under outer (in_scope opts p k h e)) st
   unfolding in_scope rename leaf_doc leaf_kind label shape
   leaf_prints outer (var i) st l e = no_leaf e
-  leaf_prints outer (sort x) st l e = rw (prints-sort opts (names_of p k) x, under_top outer (with_inner 1024 (sort_doc x)) l refl)
-  leaf_prints outer (const n ls) st l e = rw (prints-const opts (names_of p k) n ls, under_top outer (with_inner 1024 (quoted "@" ⊹ name_doc n)) l refl)
+  leaf_prints outer (sort x) st l e = rw (prints_sort opts (names_of p k) x, under_top outer (with_inner 1024 (sort_doc x)) l refl)
+  leaf_prints outer (const n ls) st l e = rw (prints_const opts (names_of p k) n ls, under_top outer (with_inner 1024 (quoted "@" ⊹ name_doc n)) l refl)
   leaf_prints outer (app f a) st l e = no_leaf e
   leaf_prints outer (pi q n s t b) st l e = no_leaf e
   leaf_prints outer (lam q n s t b) st l e = no_leaf e
   leaf_prints outer (letᵉ q n t v b d) st l e = no_leaf e
   leaf_prints outer (proj n i x) st l e = no_leaf e
-  leaf_prints outer (nat s) st l e = rw (prints-nat opts (names_of p k) s, under_top outer (with_inner 1024 (textᵐ s)) l refl)
-  leaf_prints outer (str s) st l e = rw (prints-str opts (names_of p k) s, under_top outer (with_inner 1024 (quoted "\"" ⊹ textᵐ s ⊹ quoted "\"")) l refl)
+  leaf_prints outer (nat s) st l e = rw (prints_nat opts (names_of p k) s, under_top outer (with_inner 1024 (textᵐ s)) l refl)
+  leaf_prints outer (str s) st l e = rw (prints_str opts (names_of p k) s, under_top outer (with_inner 1024 (quoted "\"" ⊹ textᵐ s ⊹ quoted "\"")) l refl)
 
   -- ---- projections
 
-  pub proj-prints : (outer : ℕ) (n : Name) (i : ℕ) (e : Expr) (st : State) → outer ≤ 1024 →
+  pub proj_prints : (outer : ℕ) (n : Name) (i : ℕ) (e : Expr) (st : State) → outer ≤ 1024 →
       emit (under outer (in_scope opts p k h (proj n i e))) st ≡ end_proj i (emit (under 1024 (in_scope opts p k h e)) st)
   unfolding in_scope rename end_proj join_piece emit quoted
-  proj-prints outer n i e st l = rw (
-    prints-proj opts (names_of p k) n i (rename (place_in k h) e),
+  proj_prints outer n i e st l = rw (
+    prints_proj opts (names_of p k) n i (rename (place_in k h) e),
     under_top outer
         (with_inner 1024 (G (under 1024 (expr_par opts (names_of p k) (rename (place_in k h) e))) ⊹ quoted "." ⊹ number_doc (i + 1))) l refl,
   )
 
   -- ---- applications
 
-  pub app-prints : (outer : ℕ) (f a : Expr) (st : State) →
+  pub app_prints : (outer : ℕ) (f a : Expr) (st : State) →
       emit (under outer (in_scope opts p k h (app f a))) st
       ≡ close_if (ltb 1023 outer) (put_nest opts.indent (put_group (emit (app_part opts p k h (app f a)) (open_if (ltb 1023 outer) st))))
   unfolding in_scope rename app_part
-  app-prints outer f a st =
+  app_prints outer f a st =
       let ns : NamesInForce = names_of p k in
       let f' : Expr = rename (place_in k h) f in
       let a' : Expr = rename (place_in k h) a in
-      ap (λ (q : Parenable). emit (under outer q) st) (prints-app opts ns f' a' ∙ app_is_spine (expr_par opts ns) opts f' a')
+      ap (λ (q : Parenable). emit (under outer q) st) (prints_app opts ns f' a' ∙ app_is_spine (expr_par opts ns) opts f' a')
       ∙ under_emits outer (with_inner 1023 (NG opts.indent (spine_doc (expr_par opts ns) (app f' a')))) st
       ∙ wrapped opts (spine_doc (expr_par opts ns) (app f' a')) (ltb 1023 outer) st
 
@@ -163,13 +163,13 @@ module _ (opts : PpOptions) (p : Pool) (k : Stack) (h : ℕ) where
       ∙ under_emits outer (let_par opts q (suc (length ns)) n (expr_par opts ns (rename ρ t)) (expr_par opts ns (rename ρ v)) (expr_par opts (n ∷ ns) (rename (up ρ) b))) st
       ∙ let_puts q n t v b (ltb 0 outer) st
 
-pushed-names : (p : Pool) (k : Stack) (name h : ℕ) → Linked k → k.count < 1024 → names_of p (push k name h) ≡ name_at p name ∷ names_of p k
+pushed_names : (p : Pool) (k : Stack) (name h : ℕ) → Linked k → k.count < 1024 → names_of p (push k name h) ≡ name_at p name ∷ names_of p k
 unfolding names_of names_below
-pushed-names p k name h w room =
+pushed_names p k name h w room =
     let c : k.count + 1 ≡ suc k.count = omega arith in
-    let last : entry (push k name h) k.count ≡ record { name = name; link = h } = push-last k name h w room in
+    let last : entry (push k name h) k.count ≡ record { name = name; link = h } = push_last k name h w room in
     ap (names_below p (push k name h)) c
-    ∙ ap₂ (λ (x : Name) (y : NamesInForce). x ∷ y) (ap (λ (x : Entry). name_at p x.name) last) (grown-names p k (push k name h) k.count (push-grown k name h w room) (omega arith))
+    ∙ ap₂ (λ (x : Name) (y : NamesInForce). x ∷ y) (ap (λ (x : Entry). name_at p x.name) last) (grown_names p k (push k name h) k.count (push_grown k name h w room) (omega arith))
 
 -- a let's body, its name on the stack
 pub let_body_lem : (opts : PpOptions) (p : Pool) (k : Stack) (h name place : ℕ) (e : Expr) (l : Stack) (st : State) → Linked k → k.count < 1024 → h ≤ k.count →
@@ -177,9 +177,9 @@ pub let_body_lem : (opts : PpOptions) (p : Pool) (k : Stack) (h name place : ℕ
 unfolding let_body in_scope
 let_body_lem opts p k h name place e l st w room b z =
     let c : k.count + 1 ≡ suc k.count = omega arith in
-    let g : Grown k (push k name h) = push-grown k name h w room in
-    let last : entry (push k name h) k.count ≡ record { name = name; link = h } = push-last k name h w room in
-    let ns : names_of p (push k name h) ≡ name_at p name ∷ names_of p k = pushed-names p k name h w room in
+    let g : Grown k (push k name h) = push_grown k name h w room in
+    let last : entry (push k name h) k.count ≡ record { name = name; link = h } = push_last k name h w room in
+    let ns : names_of p (push k name h) ≡ name_at p name ∷ names_of p k = pushed_names p k name h w room in
     let ρ : rename (place_in (push k name h) (k.count + 1)) e ≡ rename (up (place_in k h)) e =
     ap (λ (n : ℕ). rename (place_in (push k name h) n) e) c
     ∙ rename_agrees (place_in (push k name h) (suc k.count)) (up (place_in k h))
@@ -191,15 +191,15 @@ pub close_stopped : (v : Bool) (st : State) → eqb (sink_of st).stop 0 ≡ fals
 unfolding close_if put_text emit
 close_stopped true st e =
     ap (λ (x : State). put_join (put_text (bytes ")") x)) (stays_join st e)
-    ∙ ap put_join (emit-stopped (textᵐ (bytes ")")) st e)
+    ∙ ap put_join (emit_stopped (textᵐ (bytes ")")) st e)
     ∙ stays_join st e
 close_stopped false st e = refl
 
 -- ---- chains
 
-refuse-stops : (place : ℕ) (st : State) → eqb (sink_of (refuse place st)).stop 0 ≡ true → ⊥
+refuse_stops : (place : ℕ) (st : State) → eqb (sink_of (refuse place st)).stop 0 ≡ true → ⊥
 unfolding refuse
-refuse-stops place (state rows text x) = by (eqb x.stop 0) refl
+refuse_stops place (state rows text x) = by (eqb x.stop 0) refl
   where
     by : (v : Bool) → eqb x.stop 0 ≡ v → eqb (sink_of (cond v (state rows text (stopped_at 7 place x)) (state rows text x))).stop 0 ≡ true → ⊥
     by true z e = no_leaf e
@@ -212,7 +212,7 @@ names_fit place count st e = leb-true count 1024 (by (leb count 1024) refl)
   where
     by : (v : Bool) → leb count 1024 ≡ v → leb count 1024 ≡ true
     by true z = z
-    by false z = absurd (refuse-stops place st (rw z at e))
+    by false z = absurd (refuse_stops place st (rw z at e))
 
 renamed_made : (ρ : ℕ → ℕ) (i : Bool) (q : ℕ) (a : Name) (s : ℕ) (t b : Expr) → rename ρ (mk_binder i q a s t b) ≡ mk_binder i q a s (rename ρ t) (rename (up ρ) b)
 unfolding mk_binder rename
@@ -229,8 +229,8 @@ prints_made : (opts : PpOptions) (ns : NamesInForce) (i : Bool) (q : ℕ) (a : N
     expr_par opts ns (mk_binder i q a s t b)
     ≡ chain_par opts (expr_par opts (pushed (binders (mk_binder i q a s t b)) ns)) (binders (mk_binder i q a s t b)) (length ns) (chain_body (mk_binder i q a s t b))
 unfolding mk_binder
-prints_made opts ns true q a s t b = prints-pi opts ns q a s t b
-prints_made opts ns false q a s t b = prints-lam opts ns q a s t b
+prints_made opts ns true q a s t b = prints_pi opts ns q a s t b
+prints_made opts ns false q a s t b = prints_lam opts ns q a s t b
 
 pub length_renamed : (ρ : ℕ → ℕ) (e : Expr) → length (binders (rename ρ e)) ≡ chain_length e
 unfolding rename binders chain_length
@@ -286,7 +286,7 @@ module _ (opts : PpOptions) (p : Pool) (k : Stack) (h : ℕ) (i : Bool) (q : ℕ
   forced d st =
       ap (λ (l : List Binder). emit (in_force l (length (names_of p k)) d) st) bs_made
       ∙ in_force_lem x (binders (rename (up ρ) b)) (length (names_of p k)) d st
-      ∙ ap₂ (λ (n c : ℕ). emit d (put_names q (n + c) st)) (names-counted p k) (ap length (sym bs_made) ∙ length_renamed ρ e)
+      ∙ ap₂ (λ (n c : ℕ). emit d (put_names q (n + c) st)) (names_counted p k) (ap length (sym bs_made) ∙ length_renamed ρ e)
 
   -- a chain: its opening parenthesis, its names, its parts
   chain_starts : (outer : ℕ) (v : Bool) (st : State) → v ≡ is_arrow (first_binder e) →
@@ -309,9 +309,9 @@ module _ (opts : PpOptions) (p : Pool) (k : Stack) (h : ℕ) (i : Bool) (q : ℕ
   on_stack l held within c =
       let u = chain_under k l held.linked c.grown h within in
       let one : bs ≡ scoped l h k.count e = chain_is_scoped p l h k.count ρ e c.chained u in
-      let two : chain_body (rename ρ e) ≡ rename (place_in l (last_scope h k.count e)) (chain_body e) = body-is-scoped p l h k.count ρ e c.chained u in
+      let two : chain_body (rename ρ e) ≡ rename (place_in l (last_scope h k.count e)) (chain_body e) = body_is_scoped p l h k.count ρ e c.chained u in
       let three : pushed (scoped l h k.count e) (names_below p k k.count) ≡ names_below p l l.count =
-      ap (pushed (scoped l h k.count e)) (sym (grown-names p k l k.count c.grown (omega arith))) ∙ names_are_pushed p l h k.count e c.chained in
+      ap (pushed (scoped l h k.count e)) (sym (grown_names p k l k.count c.grown (omega arith))) ∙ names_are_pushed p l h k.count e c.chained in
       rw (one, two, three)
 
 -- a chain whose names do not fit, or that starts on a sink that has stopped
@@ -327,7 +327,7 @@ chain_stops opts p k h i q a s t b e₀ outer level count v st made arrow levels
     rw (made, levels, c) (chain_starts opts p k h i q a s t b outer v st z) in
     sym
     (starts
-    ∙ ap (close_if (ltb level outer)) (emit-stopped (whole opts p k h i q a s t b).doc st' stopped)
+    ∙ ap (close_if (ltb level outer)) (emit_stopped (whole opts p k h i q a s t b).doc st' stopped)
     ∙ close_stopped (ltb level outer) st' stopped)
 
 -- a chain whose names were put on the stack

@@ -44,17 +44,17 @@ module _ {A : Type 0} where
 
 -- ---- the chain on the stack
 
-count-step : (v : Bool) (x : Binder) (l : List Binder) (n : ℕ) → length l ≡ n → length (cond v (x ∷ l) []) ≡ cond v (suc n) 0
-count-step true x l n e = ap suc e
-count-step false x l n e = refl
+count_step : (v : Bool) (x : Binder) (l : List Binder) (n : ℕ) → length l ≡ n → length (cond v (x ∷ l) []) ≡ cond v (suc n) 0
+count_step true x l n e = ap suc e
+count_step false x l n e = refl
 
 -- a run does not look at types
-run-type : (c i u : Bool) (n : Name) (s : ℕ) (t v : Expr) (p : ℕ) →
+run_type : (c i u : Bool) (n : Name) (s : ℕ) (t v : Expr) (p : ℕ) →
     in_run c (record { is_pi = i; used = u; name = n; style = s; type = t; place = p })
     ≡ in_run c (record { is_pi = i; used = u; name = n; style = s; type = v; place = p })
 unfolding in_run is_named_pi is_arrow
-run-type true i u n s t v p = refl
-run-type false i u n s t v p = refl
+run_type true i u n s t v p = refl
+run_type false i u n s t v p = refl
 
 pub run_length_lem : (k : Stack) (h m : ℕ) (c : Bool) (e : Expr) → length (leading (in_run c) (scoped k h m e)) ≡ run_length c e
 unfolding scoped leading run_length first_binder
@@ -63,13 +63,13 @@ run_length_lem k h m c (sort l) = refl
 run_length_lem k h m c (const n ls) = refl
 run_length_lem k h m c (app g a) = refl
 run_length_lem k h m c (pi q n s t b) =
-    rw (run-type c true (occurs 0 b) n s (rename (place_in k h) t) t q)
-    (count-step (in_run c (first_binder (pi q n s t b)))
+    rw (run_type c true (occurs 0 b) n s (rename (place_in k h) t) t q)
+    (count_step (in_run c (first_binder (pi q n s t b)))
     (record { is_pi = true; used = occurs 0 b; name = n; style = s; type = rename (place_in k h) t; place = q })
     (leading (in_run c) (scoped k (suc m) (suc m) b)) (run_length c b) (run_length_lem k (suc m) (suc m) c b))
 run_length_lem k h m c (lam q n s t b) =
-    rw (run-type c false (occurs 0 b) n s (rename (place_in k h) t) t q)
-    (count-step (in_run c (first_binder (lam q n s t b)))
+    rw (run_type c false (occurs 0 b) n s (rename (place_in k h) t) t q)
+    (count_step (in_run c (first_binder (lam q n s t b)))
     (record { is_pi = false; used = occurs 0 b; name = n; style = s; type = rename (place_in k h) t; place = q })
     (leading (in_run c) (scoped k (suc m) (suc m) b)) (run_length c b) (run_length_lem k (suc m) (suc m) c b))
 run_length_lem k h m c (letᵉ q n t v b d) = refl
@@ -79,8 +79,8 @@ run_length_lem k h m c (str s) = refl
 
 -- ---- groups
 
-not-lt : {i j : ℕ} → (i < j → ⊥) → j ≤ i
-not-lt {i} {j} n = by (dec_le j i)
+not_lt : {i j : ℕ} → (i < j → ⊥) → j ≤ i
+not_lt {i} {j} n = by (dec_le j i)
   where
     by : Dec (j ≤ i) → j ≤ i
     by (yes h) = h
@@ -101,7 +101,7 @@ module _ (σ : ℕ → ℕ) (rises : (i : ℕ) → σ i < σ (suc i)) where
           let f : σ (suc i) + (j - suc i) ≤ σ j = rw e at (rises_by (suc i) (j - suc i)) in
           lt-ltb (σ i) (σ j) (omega (arith, rises i)) ∙ sym (lt-ltb i j h)
       by (no n) =
-          let l : j ≤ i = not-lt n in
+          let l : j ≤ i = not_lt n in
           let e : j + (i - j) ≡ i = omega arith in
           let f : σ j + (i - j) ≤ σ i = rw e at (rises_by j (i - j)) in
           le-ltb (σ i) (σ j) (omega arith) ∙ sym (le-ltb i j l)
@@ -118,7 +118,7 @@ module _ (σ : ℕ → ℕ) (rises : (i : ℕ) → σ i < σ (suc i)) where
     where
       by : Dec (n < i) → cond (ltb n i) 1 0 + min i n ≡ min i (suc n)
       by (yes h) = rw (lt-ltb n i h) (omega arith)
-      by (no k) = let l : i ≤ n = not-lt k in rw (le-ltb n i l) (omega arith)
+      by (no k) = let l : i ≤ n = not_lt k in rw (le-ltb n i l) (omega arith)
 
   -- the index that comes to stand at a place
   back : ℕ → ℕ
@@ -152,9 +152,9 @@ module _ (σ : ℕ → ℕ) (rises : (i : ℕ) → σ i < σ (suc i)) where
 
 -- the binders after a group's first, on the stack, that belong to the group
 module _ (p : Pool) (k : Stack) (linked : Linked k) (i₀ u₀ : Bool) (n₀ : Name) (style : ℕ) (t : Expr) (q₀ h₀ : ℕ) where
-  type-same : (h j : ℕ) (u : Expr) → h ≤ k.count → ((i : ℕ) → place_in k h (i + j) ≡ place_in k h₀ i) →
+  type_same : (h j : ℕ) (u : Expr) → h ≤ k.count → ((i : ℕ) → place_in k h (i + j) ≡ place_in k h₀ i) →
       same (rename (place_in k h₀) t) (rename (place_in k h) u) ≡ same (lift j 0 t) u
-  type-same h j u b f =
+  type_same h j u b f =
       ap (λ (x : Expr). same x (rename (place_in k h) u))
       (sym (ap (rename (place_in k h)) (lift_renames j 0 t) ∙ rename_composes (place_in k h) (lifted j 0) (place_in k h₀) (λ i. rw (leb-suc-zero i) (f i)) t))
       ∙ same_renamed (place_in k h) (λ i. place_rises k linked h i b) (lift j 0 t) u
@@ -163,41 +163,41 @@ module _ (p : Pool) (k : Stack) (linked : Linked k) (i₀ u₀ : Bool) (n₀ : N
   abbrev pub first_on : Binder
   first_on = record { is_pi = i₀; used = u₀; name = n₀; style = style; type = rename (place_in k h₀) t; place = q₀ }
 
-  pub group-length :
+  pub group_length_lem :
       (n j h m : ℕ) (e : Expr) → Chained p k h m e → h ≤ k.count → ((i : ℕ) → place_in k h (i + j) ≡ place_in k h₀ i) →
       length (leading (same_group first_on) (take n (scoped k h m e))) ≡ group_length n style t j e
   unfolding scoped leading group_length in_group first_binder same_group Chained
-  group-length zero j h m (var i) ch b₀ f = refl
-  group-length (suc n) j h m (var i) ch b₀ f = refl
-  group-length zero j h m (sort l) ch b₀ f = refl
-  group-length (suc n) j h m (sort l) ch b₀ f = refl
-  group-length zero j h m (const a ls) ch b₀ f = refl
-  group-length (suc n) j h m (const a ls) ch b₀ f = refl
-  group-length zero j h m (app g a) ch b₀ f = refl
-  group-length (suc n) j h m (app g a) ch b₀ f = refl
-  group-length zero j h m (pi q a s u b) ch b₀ f = refl
-  group-length (suc n) j h m (pi q a s u b) ch b₀ f =
+  group_length_lem zero j h m (var i) ch b₀ f = refl
+  group_length_lem (suc n) j h m (var i) ch b₀ f = refl
+  group_length_lem zero j h m (sort l) ch b₀ f = refl
+  group_length_lem (suc n) j h m (sort l) ch b₀ f = refl
+  group_length_lem zero j h m (const a ls) ch b₀ f = refl
+  group_length_lem (suc n) j h m (const a ls) ch b₀ f = refl
+  group_length_lem zero j h m (app g a) ch b₀ f = refl
+  group_length_lem (suc n) j h m (app g a) ch b₀ f = refl
+  group_length_lem zero j h m (pi q a s u b) ch b₀ f = refl
+  group_length_lem (suc n) j h m (pi q a s u b) ch b₀ f =
       let x : Binder = record { is_pi = true; used = occurs 0 b; name = a; style = s; type = rename (place_in k h) u; place = q } in
       let len : length (scoped k (suc m) (suc m) b) + suc m ≡ k.count = chain_length_lem p k (suc m) (suc m) b ch.2 in
       let next : (i : ℕ) → place_in k (suc m) (i + suc j) ≡ place_in k h₀ i =
       λ i. ap (place_in k (suc m)) (add-suc i j) ∙ place_out k m (i + j) ∙ ap (λ (y : ℕ). place_in k y (i + j)) ch.0 ∙ f i in
-      rw (type-same h j u b₀ f)
-      (count-step (in_group style t j (first_binder (pi q a s u b))) x (leading (same_group first_on) (take n (scoped k (suc m) (suc m) b)))
-      (group_length n style t (suc j) b) (group-length n (suc j) (suc m) (suc m) b ch.2 (omega arith) next))
-  group-length zero j h m (lam q a s u b) ch b₀ f = refl
-  group-length (suc n) j h m (lam q a s u b) ch b₀ f =
+      rw (type_same h j u b₀ f)
+      (count_step (in_group style t j (first_binder (pi q a s u b))) x (leading (same_group first_on) (take n (scoped k (suc m) (suc m) b)))
+      (group_length n style t (suc j) b) (group_length_lem n (suc j) (suc m) (suc m) b ch.2 (omega arith) next))
+  group_length_lem zero j h m (lam q a s u b) ch b₀ f = refl
+  group_length_lem (suc n) j h m (lam q a s u b) ch b₀ f =
       let x : Binder = record { is_pi = false; used = occurs 0 b; name = a; style = s; type = rename (place_in k h) u; place = q } in
       let len : length (scoped k (suc m) (suc m) b) + suc m ≡ k.count = chain_length_lem p k (suc m) (suc m) b ch.2 in
       let next : (i : ℕ) → place_in k (suc m) (i + suc j) ≡ place_in k h₀ i =
       λ i. ap (place_in k (suc m)) (add-suc i j) ∙ place_out k m (i + j) ∙ ap (λ (y : ℕ). place_in k y (i + j)) ch.0 ∙ f i in
-      rw (type-same h j u b₀ f)
-      (count-step (in_group style t j (first_binder (lam q a s u b))) x (leading (same_group first_on) (take n (scoped k (suc m) (suc m) b)))
-      (group_length n style t (suc j) b) (group-length n (suc j) (suc m) (suc m) b ch.2 (omega arith) next))
-  group-length zero j h m (letᵉ q a u v b d) ch b₀ f = refl
-  group-length (suc n) j h m (letᵉ q a u v b d) ch b₀ f = refl
-  group-length zero j h m (proj a i e) ch b₀ f = refl
-  group-length (suc n) j h m (proj a i e) ch b₀ f = refl
-  group-length zero j h m (nat s) ch b₀ f = refl
-  group-length (suc n) j h m (nat s) ch b₀ f = refl
-  group-length zero j h m (str s) ch b₀ f = refl
-  group-length (suc n) j h m (str s) ch b₀ f = refl
+      rw (type_same h j u b₀ f)
+      (count_step (in_group style t j (first_binder (lam q a s u b))) x (leading (same_group first_on) (take n (scoped k (suc m) (suc m) b)))
+      (group_length n style t (suc j) b) (group_length_lem n (suc j) (suc m) (suc m) b ch.2 (omega arith) next))
+  group_length_lem zero j h m (letᵉ q a u v b d) ch b₀ f = refl
+  group_length_lem (suc n) j h m (letᵉ q a u v b d) ch b₀ f = refl
+  group_length_lem zero j h m (proj a i e) ch b₀ f = refl
+  group_length_lem (suc n) j h m (proj a i e) ch b₀ f = refl
+  group_length_lem zero j h m (nat s) ch b₀ f = refl
+  group_length_lem (suc n) j h m (nat s) ch b₀ f = refl
+  group_length_lem zero j h m (str s) ch b₀ f = refl
+  group_length_lem (suc n) j h m (str s) ch b₀ f = refl

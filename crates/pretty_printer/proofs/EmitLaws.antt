@@ -20,10 +20,10 @@ use Rattle.binders.specs.Options.{PpOptions}
 
 -- ---- tiles
 
-tile-last : (d : Marked) (ds : List Marked) (x : Marked) → tile_from d (ds ++ (x ∷ [])) ≡ tile_from d ds ⊹ G (line ⊹ x)
+tile_last : (d : Marked) (ds : List Marked) (x : Marked) → tile_from d (ds ++ (x ∷ [])) ≡ tile_from d ds ⊹ G (line ⊹ x)
 unfolding tile_from
-tile-last d [] x = refl
-tile-last d (next ∷ ds) x = tile-last (d ⊹ G (line ⊹ next)) ds x
+tile_last d [] x = refl
+tile_last d (next ∷ ds) x = tile_last (d ⊹ G (line ⊹ next)) ds x
 
 -- ---- applications
 
@@ -54,7 +54,7 @@ module _ (pp : Expr → Parenable) where
       ap (λ (d : Marked). d ⊹ G (line ⊹ arg a)) (spine_is_tile f)
       ∙ sym (ap (λ (l : List Expr). tile_from (G (under 1023 (pp (app_head f)))) (map arg l)) (args_last f (a ∷ []))
       ∙ ap (tile_from (G (under 1023 (pp (app_head f))))) (map-append arg (app_args f []) (a ∷ []))
-      ∙ tile-last (G (under 1023 (pp (app_head f)))) (map arg (app_args f [])) (arg a))
+      ∙ tile_last (G (under 1023 (pp (app_head f)))) (map arg (app_args f [])) (arg a))
   spine_is_tile (pi p n s t b) = refl
   spine_is_tile (lam p n s t b) = refl
   spine_is_tile (letᵉ p n t v b d) = refl
@@ -69,21 +69,21 @@ module _ (pp : Expr → Parenable) where
 -- ---- chains
 
 module _ (opts : PpOptions) (pp : Expr → Parenable) where
-  pub no-binders : (body : Parenable) → binders_par opts pp [] body ≡ body
+  pub no_binders : (body : Parenable) → binders_par opts pp [] body ≡ body
   unfolding binders_par runs_par
-  no-binders body = rw (runs_of_none goes_along)
+  no_binders body = rw (runs_of_none goes_along)
 
   pub arrow_first : (b : Binder) (bs : List Binder) (body : Parenable) → is_arrow b ≡ true → b.is_pi ≡ true → binders_par opts pp (b ∷ bs)
       body ≡ arrow_par opts pp b (binders_par opts pp bs body)
   unfolding binders_par runs_par run_par
   arrow_first b bs body e q = rw (arrow_alone b e q bs, e)
 
-  pub run-first : (b : Binder) (bs : List Binder) (body : Parenable) → is_arrow b ≡ false →
+  pub run_first : (b : Binder) (bs : List Binder) (body : Parenable) → is_arrow b ≡ false →
       binders_par opts pp (b ∷ bs) body ≡ cond b.is_pi
       (forall_par opts pp (b ∷ leading (goes_along b) bs) (binders_par opts pp (following (goes_along b) bs) body))
       (fun_par opts pp (b ∷ leading (goes_along b) bs) (binders_par opts pp (following (goes_along b) bs) body))
   unfolding binders_par runs_par run_par
-  run-first b bs body e = rw (runs_are_leading goes_along b bs, e)
+  run_first b bs body e = rw (runs_are_leading goes_along b bs, e)
 
   -- an arrow binder and what follows it
   pub arrow_puts : (b : Binder) (tail : Parenable) (st : State) → emit (arrow_par opts pp b tail).doc st ≡ put_join

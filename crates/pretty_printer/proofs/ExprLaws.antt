@@ -13,7 +13,7 @@ use Rattle.binders.specs.Binders.{Binder, binders, chain_body, pushed}
 use Rattle.pretty_printer.specs.Exprs.{app_head, app_args, app_par, chain_par, let_par, expr_par_to, expr_par}
 use Rattle.binders.specs.Variables.{var_doc}
 use Rattle.binders.proofs.RunLaws.{All}
-use Rattle.pretty_printer.proofs.BoundLaws.{bound_does_not_matter, head_depth, args_depth, body-depth, types_depth, all_one, all_map, Within, TypeWithin, Agree}
+use Rattle.pretty_printer.proofs.BoundLaws.{bound_does_not_matter, head_depth, args_depth, body_depth, types_depth, all_one, all_map, Within, TypeWithin, Agree}
 use Rattle.pretty_printer.proofs.BoundLaws.{app_agrees, chain_agrees}
 use Rattle.binders.specs.Options.{PpOptions}
 use Rattle.binders.specs.Shown.{NamesInForce}
@@ -24,33 +24,33 @@ module _ (opts : PpOptions) (ns : NamesInForce) where
   unfolding expr_par
   at_depth k e h = bound_does_not_matter opts k (depth e) ns e h (omega arith)
 
-  pub prints-var : (i : ℕ) → expr_par opts ns (var i) ≡ with_inner 1024 (var_doc ns i i)
+  pub prints_var : (i : ℕ) → expr_par opts ns (var i) ≡ with_inner 1024 (var_doc ns i i)
   unfolding expr_par expr_par_to depth
-  prints-var i = refl
+  prints_var i = refl
 
-  pub prints-sort : (l : Level) → expr_par opts ns (sort l) ≡ with_inner 1024 (sort_doc l)
+  pub prints_sort : (l : Level) → expr_par opts ns (sort l) ≡ with_inner 1024 (sort_doc l)
   unfolding expr_par expr_par_to depth
-  prints-sort l = refl
+  prints_sort l = refl
 
-  pub prints-const : (n : Name) (ls : List Level) → expr_par opts ns (const n ls) ≡ with_inner 1024 (quoted "@" ⊹ name_doc n)
+  pub prints_const : (n : Name) (ls : List Level) → expr_par opts ns (const n ls) ≡ with_inner 1024 (quoted "@" ⊹ name_doc n)
   unfolding expr_par expr_par_to depth
-  prints-const n ls = refl
+  prints_const n ls = refl
 
-  pub prints-nat : (s : List ℕ) → expr_par opts ns (nat s) ≡ with_inner 1024 (textᵐ s)
+  pub prints_nat : (s : List ℕ) → expr_par opts ns (nat s) ≡ with_inner 1024 (textᵐ s)
   unfolding expr_par expr_par_to depth
-  prints-nat s = refl
+  prints_nat s = refl
 
-  pub prints-str : (s : List ℕ) → expr_par opts ns (str s) ≡ with_inner 1024 (quoted "\"" ⊹ textᵐ s ⊹ quoted "\"")
+  pub prints_str : (s : List ℕ) → expr_par opts ns (str s) ≡ with_inner 1024 (quoted "\"" ⊹ textᵐ s ⊹ quoted "\"")
   unfolding expr_par expr_par_to depth
-  prints-str s = refl
+  prints_str s = refl
 
-  pub prints-proj : (n : Name) (i : ℕ) (e : Expr) → expr_par opts ns (proj n i e) ≡ with_inner 1024 (G (under 1024 (expr_par opts ns e)) ⊹ quoted "." ⊹ number_doc (i + 1))
+  pub prints_proj : (n : Name) (i : ℕ) (e : Expr) → expr_par opts ns (proj n i e) ≡ with_inner 1024 (G (under 1024 (expr_par opts ns e)) ⊹ quoted "." ⊹ number_doc (i + 1))
   unfolding expr_par expr_par_to depth
-  prints-proj n i e = refl
+  prints_proj n i e = refl
 
-  pub prints-app : (f a : Expr) → expr_par opts ns (app f a) ≡ app_par opts (expr_par opts ns) (app_head f) (app_args f (a ∷ []))
+  pub prints_app : (f a : Expr) → expr_par opts ns (app f a) ≡ app_par opts (expr_par opts ns) (app_head f) (app_args f (a ∷ []))
   unfolding expr_par expr_par_to depth
-  prints-app f a =
+  prints_app f a =
       let d : ℕ = max (depth f) (depth a) in
       app_agrees opts (expr_par_to opts d ns) (expr_par opts ns) (app_head f) (app_args f (a ∷ []))
       (at_depth d (app_head f) (omega (arith, head_depth f)))
@@ -66,19 +66,19 @@ chain_at_depth opts k ns bs outside body p h =
     (at_depth opts ns k body h)
 
 module _ (opts : PpOptions) (ns : NamesInForce) where
-  pub prints-pi : (p : ℕ) (n : Name) (s : ℕ) (t b : Expr) →
+  pub prints_pi : (p : ℕ) (n : Name) (s : ℕ) (t b : Expr) →
       expr_par opts ns (pi p n s t b) ≡ chain_par opts (expr_par opts (pushed (binders (pi p n s t b)) ns)) (binders (pi p n s t b)) (length ns) (chain_body (pi p n s t b))
   unfolding expr_par expr_par_to depth chain_body
-  prints-pi p n s t b =
+  prints_pi p n s t b =
       chain_at_depth opts (max (depth t) (depth b)) (pushed (binders (pi p n s t b)) ns) (binders (pi p n s t b)) (length ns) (chain_body b)
-      (types_depth (max (depth t) (depth b)) (pi p n s t b) (omega arith)) (omega (arith, body-depth b))
+      (types_depth (max (depth t) (depth b)) (pi p n s t b) (omega arith)) (omega (arith, body_depth b))
 
-  pub prints-lam : (p : ℕ) (n : Name) (s : ℕ) (t b : Expr) →
+  pub prints_lam : (p : ℕ) (n : Name) (s : ℕ) (t b : Expr) →
       expr_par opts ns (lam p n s t b) ≡ chain_par opts (expr_par opts (pushed (binders (lam p n s t b)) ns)) (binders (lam p n s t b)) (length ns) (chain_body (lam p n s t b))
   unfolding expr_par expr_par_to depth chain_body
-  prints-lam p n s t b =
+  prints_lam p n s t b =
       chain_at_depth opts (max (depth t) (depth b)) (pushed (binders (lam p n s t b)) ns) (binders (lam p n s t b)) (length ns) (chain_body b)
-      (types_depth (max (depth t) (depth b)) (lam p n s t b) (omega arith)) (omega (arith, body-depth b))
+      (types_depth (max (depth t) (depth b)) (lam p n s t b) (omega arith)) (omega (arith, body_depth b))
 
   pub prints_let : (p : ℕ) (n : Name) (t v b : Expr) (d : ℕ) →
       expr_par opts ns (letᵉ p n t v b d) ≡ let_par opts p (suc (length ns)) n (expr_par opts ns t) (expr_par opts ns v) (expr_par opts (n ∷ ns) b)

@@ -22,8 +22,8 @@ use Rattle.binders.specs.Steps.{first_binder, is_binder, in_run, run_length, par
 use Rattle.pretty_printer.specs.Parts.{printed, in_scope, chain_part, groups_part, run_part}
 use Rattle.binders.specs.Steps.{level_of}
 use Rattle.pretty_printer.proofs.ChainLaws.{leading_takes, following_drops, run_length_lem}
-use Rattle.pretty_printer.proofs.EmitLaws.{no-binders, arrow_first, run-first, arrow_puts, run_puts}
-use Rattle.binders.proofs.ViewLaws.{first_made, length_made, scoped_made, body-none, scope-none, scoped-none}
+use Rattle.pretty_printer.proofs.EmitLaws.{no_binders, arrow_first, run_first, arrow_puts, run_puts}
+use Rattle.binders.proofs.ViewLaws.{first_made, length_made, scoped_made, body_none, scope_none, scoped_none}
 use Rattle.binders.proofs.DropLaws.{Later, later_some, run-within}
 use Rattle.binders.specs.Options.{PpOptions}
 
@@ -89,14 +89,14 @@ module _ (opts : PpOptions) (p : Pool) (k : Stack) where
   pub part_none : (h m : ℕ) (e : Expr) → is_binder e ≡ false → chain_part opts p k h m e ≡ in_scope opts p k h e
   unfolding chain_part
   part_none h m e n =
-      rw (scoped-none k h m e n, scope-none h m e n, body-none e n) (no-binders opts (printed opts p k) (in_scope opts p k h e))
+      rw (scoped_none k h m e n, scope_none h m e n, body_none e n) (no_binders opts (printed opts p k) (in_scope opts p k h e))
 
 -- the level of binders
 module _ (opts : PpOptions) (pp : Expr → Parenable) where
-  run-inner : (c : Bool) (bs : List Binder) (tail : Parenable) → (cond c (forall_par opts pp bs tail) (fun_par opts pp bs tail)).inner ≡ 0
+  run_inner : (c : Bool) (bs : List Binder) (tail : Parenable) → (cond c (forall_par opts pp bs tail) (fun_par opts pp bs tail)).inner ≡ 0
   unfolding forall_par fun_par
-  run-inner true bs tail = refl
-  run-inner false bs tail = refl
+  run_inner true bs tail = refl
+  run_inner false bs tail = refl
 
   pub binders_level : (x : Binder) (xs : List Binder) (body : Parenable) → (binders_par opts pp (x ∷ xs) body).inner ≡ level_of (is_arrow x)
   unfolding level_of arrow_par
@@ -104,7 +104,7 @@ module _ (opts : PpOptions) (pp : Expr → Parenable) where
     where
       by : (v : Bool) → is_arrow x ≡ v → (binders_par opts pp (x ∷ xs) body).inner ≡ cond v 24 0
       by true e = ap (λ (c : Parenable). c.inner) (arrow_first opts pp x xs body e (arrow_is_pi x e))
-      by false e = ap (λ (c : Parenable). c.inner) (run-first opts pp x xs body e) ∙ run-inner x.is_pi _ _
+      by false e = ap (λ (c : Parenable). c.inner) (run_first opts pp x xs body e) ∙ run_inner x.is_pi _ _
 
 -- ---- a binder
 
@@ -158,7 +158,7 @@ module _ (opts : PpOptions) (p : Pool) (k : Stack) (i : Bool) (q : ℕ) (a : Nam
       let rest : binders_par opts pp (following (goes_along x) xs) body ≡ chain_part opts p k (m + n) (m + n) (drop_chain n e) =
       ap (λ (l : List Binder). binders_par opts pp l body) after ∙ tail_is n (omega arith) few in
       part_made
-      ∙ run-first opts pp x xs body y
+      ∙ run_first opts pp x xs body y
       ∙ rw (rest, first, whole)
 
   first_arrow : is_arrow (first_binder e) ≡ is_arrow x

@@ -19,7 +19,7 @@ use Rattle.pieces.specs.Docs.{under, tile}
 use Rattle.names.specs.Names.{name_doc}
 use Rattle.pieces.specs.Parens.{open_if, close_if}
 use Rattle.pieces.specs.Tiles.{end_tile}
-use Rattle.pieces.proofs.Emitting.{emit-stopped}
+use Rattle.pieces.proofs.Emitting.{emit_stopped}
 use Rattle.binders.specs.declared.stack.Stack.{Stack}
 use Rattle.binders.specs.Asked.{Asked, InChain, ChainPushed, PartEnd, GroupEnd}
 use Rattle.binders.specs.Binders.{Binder, is_arrow}
@@ -32,13 +32,13 @@ use Rattle.pretty_printer.specs.Parts.{in_scope, app_part, chain_part, groups_pa
 use Rattle.binders.specs.Leaves.{leaf_kind, leaf_doc}
 use Rattle.pieces.specs.Puts.{end_proj, start_let, put_assign, end_let}
 use Rattle.binders.specs.Steps.{level_of}
-use Rattle.binders.proofs.ScopeLaws.{push-named, chain_length_lem}
+use Rattle.binders.proofs.ScopeLaws.{push_named, chain_length_lem}
 use Rattle.binders.proofs.ViewLaws.{BinderRow, binder_at, binder_row, length_made, run_starts}
 use Rattle.binders.proofs.BinderLaws.{first_at_lem}
-use Rattle.binders.proofs.DropLaws.{Later, later_some, length-scoped, run-within, group-within}
-use Rattle.pretty_printer.proofs.TelescopeLaws.{no-groups, groups_at}
+use Rattle.binders.proofs.DropLaws.{Later, later_some, length-scoped, run-within, group_within}
+use Rattle.pretty_printer.proofs.TelescopeLaws.{no_groups, groups_at}
 use Rattle.pretty_printer.proofs.PartLaws.{part_none, parts_at}
-use Rattle.pretty_printer.proofs.CallLaws.{var-prints, leaf_prints, proj-prints, app-prints, spine_prints, head_prints, let_prints, let_body_lem, chain_stops}
+use Rattle.pretty_printer.proofs.CallLaws.{var_prints, leaf_prints, proj_prints, app_prints, spine_prints, head_prints, let_prints, let_body_lem, chain_stops}
 use Rattle.pretty_printer.proofs.CallLaws.{chain_goes_on}
 use Rattle.binders.specs.Options.{PpOptions}
 
@@ -69,18 +69,18 @@ module _ {bs ns ws : List ℕ} {t : Tables} {k : Stack} {h r : ℕ} (a : Asked b
   sound = a.pool.ready.sound
 
   -- a row below, in the same scope
-  pub asked-below : (x : ℕ) → x < r → Asked bs ns ws t k h x
-  asked-below x l = record { pool = a.pool; held = a.held; scope = a.scope; row = omega (arith, a.row) }
+  pub asked_below : (x : ℕ) → x < r → Asked bs ns ws t k h x
+  asked_below x l = record { pool = a.pool; held = a.held; scope = a.scope; row = omega (arith, a.row) }
 
   -- there are ten kinds
   pub kind_of : w 0 < 10
   kind_of = kind_small p sound r a.row
 
-  pub proj-rows : (x : ℕ) → w 0 ≡ 7 → x ≡ w 3 → x < r
-  proj-rows x e z = let ok = proj_ok p sound r a.row e in omega (arith, ok.2)
+  pub proj_rows : (x : ℕ) → w 0 ≡ 7 → x ≡ w 3 → x < r
+  proj_rows x e z = let ok = proj_ok p sound r a.row e in omega (arith, ok.2)
 
-  pub proj-field : (i : ℕ) → w 0 ≡ 7 → i ≡ w 2 → i ≤ 65534
-  proj-field i e z = let ok = proj_ok p sound r a.row e in omega (arith, ok.1)
+  pub proj_field : (i : ℕ) → w 0 ≡ 7 → i ≡ w 2 → i ≤ 65534
+  proj_field i e z = let ok = proj_ok p sound r a.row e in omega (arith, ok.1)
 
   pub var_index : (i : ℕ) → w 0 ≡ 0 → i ≡ w 1 → i ≤ 4095
   var_index i e z = let ok = var_ok p sound r a.row e in omega (arith, ok)
@@ -104,39 +104,39 @@ module _ {bs ns ws : List ℕ} {t : Tables} {k : Stack} {h r : ℕ} (a : Asked b
   binder_style x e z = let row = binder_at p sound r a.row e in omega (arith, row.style)
 
   -- a let's body, its name on the stack
-  pub asked-inside : (x name : ℕ) (l : Stack) → w 0 ≡ 6 → x ≡ w 4 → name ≡ w 1 → k.count < 1024 → l ≡ push k name h → Asked bs ns ws t l (k.count + 1) x
-  asked-inside x name l e z n room is =
+  pub asked_inside : (x name : ℕ) (l : Stack) → w 0 ≡ 6 → x ≡ w 4 → name ≡ w 1 → k.count < 1024 → l ≡ push k name h → Asked bs ns ws t l (k.count + 1) x
+  asked_inside x name l e z n room is =
       let below : x < r = let_inside x e z in
       record {
         pool = a.pool;
-        held = rw is (push-named k name h a.held.linked room p a.held (let_name name e n) a.scope);
+        held = rw is (push_named k name h a.held.linked room p a.held (let_name name e n) a.scope);
         scope = rw is (omega arith);
         row = omega (arith, a.row);
       }
 
   module _ (opts : PpOptions) where
-    pub var-row : (i outer : ℕ) (st : State) → w 0 ≡ 0 → i ≡ w 1 → outer ≤ 1024 →
+    pub var_row : (i outer : ℕ) (st : State) → w 0 ≡ 0 → i ≡ w 1 → outer ≤ 1024 →
         emit (var_doc (names_of p k) (place_in k h i) (place_in k h i)) st ≡ emit (under outer (in_scope opts p k h (expr_at p r))) st
-    var-row i outer st e z l = rw (var_at p sound r a.row e, z) (var-prints opts p k h outer (w 1) st l)
+    var_row i outer st e z l = rw (var_at p sound r a.row e, z) (var_prints opts p k h outer (w 1) st l)
 
     pub leaf_row : (outer : ℕ) (st : State) → leaf_kind (w 0) ≡ true → outer ≤ 1024 → emit (leaf_doc (expr_at p r)) st ≡ emit (under outer (in_scope opts p k h (expr_at p r))) st
     leaf_row outer st e l = leaf_prints opts p k h outer (expr_at p r) st l (ap leaf_kind (label_word p sound r a.row) ∙ e)
 
-    pub proj-row : (x i : ℕ) (st : State) → w 0 ≡ 7 → x ≡ w 3 → i ≡ w 2 →
+    pub proj_row : (x i : ℕ) (st : State) → w 0 ≡ 7 → x ≡ w 3 → i ≡ w 2 →
         end_proj i (emit (under 1024 (in_scope opts p k h (expr_at p x))) st) ≡ emit (under 1024 (in_scope opts p k h (expr_at p r))) st
-    proj-row x i st e z y = rw (proj_at p sound r a.row e, z, y) (sym (proj-prints opts p k h 1024 (name_at p (w 1)) (w 2) (expr_at p (w 3)) st (omega arith)))
+    proj_row x i st e z y = rw (proj_at p sound r a.row e, z, y) (sym (proj_prints opts p k h 1024 (name_at p (w 1)) (w 2) (expr_at p (w 3)) st (omega arith)))
 
     -- a projection's level is the highest
     pub proj_level : (outer : ℕ) (st : State) → w 0 ≡ 7 → outer ≤ 1024 → emit (under 1024 (in_scope opts p k h (expr_at p r))) st ≡ emit (under outer (in_scope opts p k h (expr_at p r))) st
     proj_level outer st e l =
         rw (proj_at p sound r a.row e)
-        (proj-prints opts p k h 1024 (name_at p (w 1)) (w 2) (expr_at p (w 3)) st (omega arith)
-        ∙ sym (proj-prints opts p k h outer (name_at p (w 1)) (w 2) (expr_at p (w 3)) st l))
+        (proj_prints opts p k h 1024 (name_at p (w 1)) (w 2) (expr_at p (w 3)) st (omega arith)
+        ∙ sym (proj_prints opts p k h outer (name_at p (w 1)) (w 2) (expr_at p (w 3)) st l))
 
-    pub app-row : (outer : ℕ) (st : State) → w 0 ≡ 3 →
+    pub app_row : (outer : ℕ) (st : State) → w 0 ≡ 3 →
         close_if (ltb 1023 outer) (put_nest opts.indent (put_group (emit (app_part opts p k h (expr_at p r)) (open_if (ltb 1023 outer) st))))
         ≡ emit (under outer (in_scope opts p k h (expr_at p r))) st
-    app-row outer st e = rw (app_at p sound r a.row e) (sym (app-prints opts p k h outer (expr_at p (w 1)) (expr_at p (w 2)) st))
+    app_row outer st e = rw (app_at p sound r a.row e) (sym (app_prints opts p k h outer (expr_at p (w 1)) (expr_at p (w 2)) st))
 
     pub head_row : (st : State) → (w 0 ≡ 3 → ⊥) → put_group (emit (under 1023 (in_scope opts p k h (expr_at p r))) st) ≡ emit (app_part opts p k h (expr_at p r)) st
     head_row st n = sym (head_prints opts p k h (expr_at p r) st (λ e. n (sym (label_word p sound r a.row) ∙ e)))
@@ -151,7 +151,7 @@ module _ {bs ns ws : List ℕ} {t : Tables} {k : Stack} {h r : ℕ} (a : Asked b
     pub let_stops : (n : ℕ) (st : State) (name : ℕ) (x : Expr) → n ≡ k.count + 1 → eqb (sink_of (put_names r n st)).stop 0 ≡ false →
         put_names r n st ≡ let_body opts p k h r (name_at p name) x st
     unfolding let_body
-    let_stops n st name x c s = rw (← c) (sym (emit-stopped _ (put_names r n st) s))
+    let_stops n st name x c s = rw (← c) (sym (emit_stopped _ (put_names r n st) s))
 
     pub let_goes_on : (n name x : ℕ) (l : Stack) (st : State) → n ≡ k.count + 1 → name ≡ w 1 → x ≡ w 4 → k.count < 1024 → l ≡ push k name h →
         emit (under 0 (in_scope opts p l n (expr_at p x))) (put_names r n st) ≡ let_body opts p k h r (name_at p (w 1)) (expr_at p (w 4)) st
@@ -186,8 +186,8 @@ module _ {bs ns ws : List ℕ} {t : Tables} {k : Stack} {h r : ℕ} (a : Asked b
     unfolding run_part
     run_row v c m n st e z = rw (e, z)
 
-    pub pis-row : (c : Bool) (kind : ℕ) → binder_kind (w 0) ≡ true → kind ≡ w 0 → c ≡ eqb kind 4 → c ≡ (first_binder (expr_at p r)).is_pi
-    pis-row c kind b z e = e ∙ ap (λ (y : ℕ). eqb y 4) z ∙ sym (ap (λ (y : Binder). y.is_pi) (first_at_lem p sound r a.row b))
+    pub pis_row : (c : Bool) (kind : ℕ) → binder_kind (w 0) ≡ true → kind ≡ w 0 → c ≡ eqb kind 4 → c ≡ (first_binder (expr_at p r)).is_pi
+    pis_row c kind b z e = e ∙ ap (λ (y : ℕ). eqb y 4) z ∙ sym (ap (λ (y : Binder). y.is_pi) (first_at_lem p sound r a.row b))
 
 -- ---- a part of a chain
 
@@ -227,13 +227,13 @@ module _ {bs ns ws : List ℕ} {t : Tables} {k : Stack} {h m r : ℕ} (c : InCha
         parts_at opts pᶜ k (eqb (expr_word ws r 0) 4) r (name_at pᶜ (expr_word ws r 1)) (expr_word ws r 2) (expr_at pᶜ (expr_word ws r 3)) (expr_at pᶜ (expr_word ws r 4))
         h m n next outer level v e (expr_at pᶜ x) st made.made f end.length end.tree z l
 
-    pub groups-row : (first : Bool) (n x count next left style type : ℕ) (st : State) → 0 < n → n ≤ chain_length e → GroupEnd pᶜ n r x count
+    pub groups_row : (first : Bool) (n x count next left style type : ℕ) (st : State) → 0 < n → n ≤ chain_length e → GroupEnd pᶜ n r x count
         → next ≡ m + count → left ≡ n - count →
         style ≡ expr_word ws r 2 → type ≡ expr_word ws r 3 →
         groups_part opts pᶜ k false next next left (expr_at pᶜ x)
         (close_group first opts.indent style (emit (under 1 (in_scope opts pᶜ k h (expr_at pᶜ type))) (put_colon (emit (tile (name_docs count e)) (open_group first style st)))))
         ≡ groups_part opts pᶜ k first h m n e st
-    groups-row first n x count next left style type st some few end z y es et =
+    groups_row first n x count next left style type st some few end z y es et =
         rw (es, et)
         (groups_at opts pᶜ k c.asked.held.linked (eqb (expr_word ws r 0) 4) r (name_at pᶜ (expr_word ws r 1)) (expr_word ws r 2) (expr_at pᶜ (expr_word ws r 3)) (expr_at pᶜ (expr_word ws r 4))
         h m n count next left first e (expr_at pᶜ x) st made.made c.chained c.asked.scope some few end.length end.tree z y)
@@ -259,8 +259,8 @@ module _ {bs ns ws : List ℕ} {t : Tables} {k : Stack} {h r : ℕ} (a : Asked b
       by (yes l) = let z : head ≡ r = omega (arith, i.low) in absurd (i.ended (rw z e))
       by (no n) = omega arith
 
-  pub argument-below : (left x : ℕ) → left < count → x ≡ get_or arguments left 0 → x < r
-  argument-below left x l e = omega (arith, i.below left l)
+  pub argument_below : (left x : ℕ) → left < count → x ≡ get_or arguments left 0 → x < r
+  argument_below left x l e = omega (arith, i.below left l)
 
   module _ (opts : PpOptions) where
     pub spine_head : (st : State) → put_group (emit (under 1023 (in_scope opts (over bs ns ws) k h (expr_at (over bs ns ws) head))) st)
@@ -278,7 +278,7 @@ module _ {bs ns ws : List ℕ} {t : Tables} {k : Stack} {h r : ℕ} (a : Asked b
         (put_nest opts.indent (put_group (emit (app_part opts (over bs ns ws) k h (drop_arguments 0 (expr_at (over bs ns ws) r))) (open_if (ltb 1023 outer) st))))
         ≡ emit (under outer (in_scope opts (over bs ns ws) k h (expr_at (over bs ns ws) r))) st
     unfolding drop_arguments
-    spine_whole outer st e = app-row a opts outer st e
+    spine_whole outer st e = app_row a opts outer st e
 
 -- a let's head, by the rows of its parts
 pub let_head_row : {bs ns ws : List ℕ} {t : Tables} {k : Stack} {h r : ℕ} (a : Asked bs ns ws t k h r) (opts : PpOptions) (n x y : ℕ) (st : State)
@@ -341,29 +341,29 @@ module _ {bs ns ws : List ℕ} {t : Tables} {k : Stack} {h r : ℕ} (a : Asked b
         rw z (run_starts (expr_at (over bs ns ws) r) (sym (binder_row (over bs ns ws) a.pool.ready.sound r a.row) ∙ b) (sym f))
 
 -- how many binders a group has
-pub group-few : (p : Pool) (n r x count : ℕ) → GroupEnd p n r x count → 0 < n → (0 < count) × (count ≤ n)
-group-few p n r x count g l =
-    let f : group_length (n - 1) (first_binder (expr_at p r)).style (first_binder (expr_at p r)).type 1 (drop_chain 1 (expr_at p r)) ≤ n - 1 = group-within (n - 1) _ _ 1 _ in
+pub group_few : (p : Pool) (n r x count : ℕ) → GroupEnd p n r x count → 0 < n → (0 < count) × (count ≤ n)
+group_few p n r x count g l =
+    let f : group_length (n - 1) (first_binder (expr_at p r)).style (first_binder (expr_at p r)).type 1 (drop_chain 1 (expr_at p r)) ≤ n - 1 = group_within (n - 1) _ _ 1 _ in
     (omega (arith, g.length), omega (arith, g.length, f))
 
 -- what is left after them
-pub left-few : (p : Pool) (k : Stack) (n r x count : ℕ) → GroupEnd p n r x count → 0 < n → n ≤ chain_length (expr_at p r) → n - count ≤ chain_length (expr_at p x)
-left-few p k n r x count g l fits =
-    let few = group-few p n r x count g l in
+pub left_few : (p : Pool) (k : Stack) (n r x count : ℕ) → GroupEnd p n r x count → 0 < n → n ≤ chain_length (expr_at p r) → n - count ≤ chain_length (expr_at p x)
+left_few p k n r x count g l fits =
+    let few = group_few p n r x count g l in
     let later : Later p k 0 0 count (expr_at p r) = later_some p k 0 0 count (expr_at p r) few.0 (omega (arith, few.1)) in
     rw g.tree (omega (arith, later.left))
 
 -- their names are on the stack
-pub groups-room : {bs ns ws : List ℕ} {t : Tables} {k : Stack} {h m r : ℕ} (c : InChain bs ns ws t k h m r) → binder_kind (expr_word ws r 0) ≡ true → (n x count : ℕ) →
+pub groups_room : {bs ns ws : List ℕ} {t : Tables} {k : Stack} {h m r : ℕ} (c : InChain bs ns ws t k h m r) → binder_kind (expr_word ws r 0) ≡ true → (n x count : ℕ) →
     GroupEnd (over bs ns ws) n r x count → 0 < n → n ≤ chain_length (expr_at (over bs ns ws) r) → m + count ≤ k.count
-groups-room c b n x count g l fits =
-    let few = group-few _ n _ x count g l in chain_room c b count (omega (arith, few.1))
+groups_room c b n x count g l fits =
+    let few = group_few _ n _ x count g l in chain_room c b count (omega (arith, few.1))
 
 -- no binders, no groups
 pub none_row : (opts : PpOptions) (p : Pool) (k : Stack) (first : Bool) (h m n : ℕ) (e : Expr) (st : State) → n ≡ 0 → (first ≡ true → 0 < n)
     → st ≡ groups_part opts p k first h m n e st
 none_row opts p k true h m n e st z f = absurd (let l : 0 < n = f refl in omega arith)
-none_row opts p k false h m n e st z f = rw z (sym (no-groups opts p k h m e st))
+none_row opts p k false h m n e st z f = rw z (sym (no_groups opts p k h m e st))
 
 pub no_true : {A : Type 0} → false ≡ true → A
 no_true e = absurd (let z : ◌≡◌ {A = ℕ} 0 1 = cc in omega arith)

@@ -23,10 +23,10 @@ use Rattle.pieces.specs.Puts.{end_group, put_colon, open_group, close_group}
 use Rattle.pretty_printer.specs.Parts.{printed, in_scope, groups_part}
 use Rattle.binders.proofs.RunLaws.{runs_are_leading, runs_of_none}
 use Rattle.binders.proofs.ScopeLaws.{chain_length_lem, place_out}
-use Rattle.pretty_printer.proofs.ChainLaws.{leading_takes, following_drops, group-length}
+use Rattle.pretty_printer.proofs.ChainLaws.{leading_takes, following_drops, group_length_lem}
 use Rattle.pretty_printer.proofs.EmitLaws.{telescope_puts, group_puts}
 use Rattle.binders.proofs.ViewLaws.{first_made, scoped_made, drop_made, chained_parts}
-use Rattle.binders.proofs.DropLaws.{Later, later_some, names-taken, group-within}
+use Rattle.binders.proofs.DropLaws.{Later, later_some, names_taken, group_within}
 use Rattle.binders.proofs.RunningLaws.{drop_nothing}
 use Rattle.binders.specs.Options.{PpOptions}
 
@@ -52,14 +52,14 @@ module _ {A : Type 0} where
 
 -- ---- groups
 
-next-tile : (d : Marked) (ds : List Marked) (st : State) → put_tile (d ∷ ds) st ≡ put_tile ds (end_tile (emit d (put_break 1 st)))
+next_tile : (d : Marked) (ds : List Marked) (st : State) → put_tile (d ∷ ds) st ≡ put_tile ds (end_tile (emit d (put_break 1 st)))
 unfolding put_tile
-next-tile d ds st = refl
+next_tile d ds st = refl
 
 -- none has no groups
-pub no-groups : (opts : PpOptions) (p : Pool) (k : Stack) (h m : ℕ) (e : Expr) (st : State) → groups_part opts p k false h m 0 e st ≡ st
+pub no_groups : (opts : PpOptions) (p : Pool) (k : Stack) (h m : ℕ) (e : Expr) (st : State) → groups_part opts p k false h m 0 e st ≡ st
 unfolding groups_part put_tile
-no-groups opts p k h m e st = rw (runs_of_none same_group)
+no_groups opts p k h m e st = rw (runs_of_none same_group)
 
 -- a chain's first binder among n + 1: its group, of g + 1 binders, and what is left of them after it
 module _ (opts : PpOptions) (p : Pool) (k : Stack) (linked : Linked k) (i : Bool) (q : ℕ) (a : Name) (s : ℕ) (t b : Expr) (h m n : ℕ)
@@ -87,20 +87,20 @@ module _ (opts : PpOptions) (p : Pool) (k : Stack) (linked : Linked k) (i : Bool
 
   counted : length (leading (same_group x) (take n xs)) ≡ g
   counted =
-      group-length p k linked i (occurs 0 b) a s t q h n 1 (suc m) (suc m) b parts.2 inner
+      group_length_lem p k linked i (occurs 0 b) a s t q h n 1 (suc m) (suc m) b parts.2 inner
       (λ j. ap (place_in k (suc m)) (add-suc j 0 ∙ ap suc (add-zero j)) ∙ place_out k m j ∙ ap (λ (y : ℕ). place_in k y j) parts.0)
 
   small : g ≤ n
-  small = group-within n s t 1 b
+  small = group_within n s t 1 b
 
-  group-is : leading (same_group x) (take n xs) ≡ take g xs
-  group-is = leading_takes (same_group x) (take n xs) ∙ ap (λ (c : ℕ). take c (take n xs)) counted ∙ take_within g n xs small
+  group_is : leading (same_group x) (take n xs) ≡ take g xs
+  group_is = leading_takes (same_group x) (take n xs) ∙ ap (λ (c : ℕ). take c (take n xs)) counted ∙ take_within g n xs small
 
   left : Later p k h m (suc g) e
   left = later_some p k h m (suc g) e (omega arith) (omega (arith, small, few))
 
-  rest-is : following (same_group x) (take n xs) ≡ take (n - g) (scoped k (m + suc g) (m + suc g) (drop_chain (suc g) e))
-  rest-is =
+  rest_is : following (same_group x) (take n xs) ≡ take (n - g) (scoped k (m + suc g) (m + suc g) (drop_chain (suc g) e))
+  rest_is =
       following_drops (same_group x) (take n xs)
       ∙ ap (λ (c : ℕ). drop c (take n xs)) counted
       ∙ drop-within g n xs
@@ -117,7 +117,7 @@ module _ (opts : PpOptions) (p : Pool) (k : Stack) (linked : Linked k) (i : Bool
   unfolding in_scope
   group_emits st =
       let names : map binder_name (x ∷ take g xs) ≡ name_docs (suc g) e =
-      ap (λ (l : List Binder). map binder_name (take (suc g) l)) (sym (scoped_made i q a s t b k h m)) ∙ names-taken k (suc g) h m e (omega (arith, small, few)) in
+      ap (λ (l : List Binder). map binder_name (take (suc g) l)) (sym (scoped_made i q a s t b k h m)) ∙ names_taken k (suc g) h m e (omega (arith, small, few)) in
       group_puts opts pp x (take g xs) st ∙ rw names
 
   -- the first group, and those after it
@@ -128,13 +128,13 @@ module _ (opts : PpOptions) (p : Pool) (k : Stack) (linked : Linked k) (i : Bool
   groups_on true st =
       ap (λ (l : List Binder). emit (telescope opts pp l) st) taken_is
       ∙ telescope_puts opts pp x (take n xs) st
-      ∙ ap₂ (λ (l u : List Binder). put_tile (map (group_doc opts pp) (runs same_group l)) (emit (group_doc opts pp (x ∷ u)) st)) rest-is group-is
+      ∙ ap₂ (λ (l u : List Binder). put_tile (map (group_doc opts pp) (runs same_group l)) (emit (group_doc opts pp (x ∷ u)) st)) rest_is group_is
       ∙ ap (put_tile (map (group_doc opts pp) (runs same_group (take (n - g) (scoped k (m + suc g) (m + suc g) (drop_chain (suc g) e)))))) (group_emits st)
   groups_on false st =
       ap (λ (l : List Binder). put_tile (map (group_doc opts pp) (runs same_group l)) st) taken_is
       ∙ ap (λ (l : List (List Binder)). put_tile (map (group_doc opts pp) l) st) (runs_are_leading same_group x (take n xs))
-      ∙ next-tile (group_doc opts pp (x ∷ leading (same_group x) (take n xs))) (map (group_doc opts pp) (runs same_group (following (same_group x) (take n xs)))) st
-      ∙ ap₂ (λ (l u : List Binder). put_tile (map (group_doc opts pp) (runs same_group l)) (end_tile (emit (group_doc opts pp (x ∷ u)) (put_break 1 st)))) rest-is group-is
+      ∙ next_tile (group_doc opts pp (x ∷ leading (same_group x) (take n xs))) (map (group_doc opts pp) (runs same_group (following (same_group x) (take n xs)))) st
+      ∙ ap₂ (λ (l u : List Binder). put_tile (map (group_doc opts pp) (runs same_group l)) (end_tile (emit (group_doc opts pp (x ∷ u)) (put_break 1 st)))) rest_is group_is
       ∙ ap (λ (v : State). put_tile (map (group_doc opts pp) (runs same_group (take (n - g) (scoped k (m + suc g) (m + suc g) (drop_chain (suc g) e))))) (end_tile v)) (group_emits (put_break 1 st))
 
 -- the same, at a row's tree, with the code's own numbers

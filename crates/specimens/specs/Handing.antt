@@ -64,6 +64,6 @@ expected =
     ∷ (1 ∷ 3 ∷ bytes "xyz")
     ∷ []
 
-pub handed-out-is : handed_out ≡ expected
+pub handed_out_is : handed_out ≡ expected
 unfolding computing rows named handed handed_out none expected
-handed-out-is = refl
+handed_out_is = refl

@@ -121,9 +121,9 @@ unfolding computing none report prints first small refused both expected
 refusals_are = refl
 
 -- 7: the last of 32 chains brings the stack to 1,056, whatever its row
-pub names-expr : walked print_expr [] (chains 0) 64 1400 200 ≡ 7 ∷ 33 ∷ []
+pub names_expr : walked print_expr [] (chains 0) 64 1400 200 ≡ 7 ∷ 33 ∷ []
 unfolding computing report chains pis over_pis walked
-names-expr = refl
+names_expr = refl
 
 pub names_declar : walked print_declar [] (chains 0) 0 1400 200 ≡ 7 ∷ 33 ∷ []
 unfolding computing report chains pis over_pis walked
@@ -134,9 +134,9 @@ unfolding computing report chains pis over_pis walked
 names_declar_later = refl
 
 -- 8: a text of 65,537 bytes, after the row of the quotation mark; the area is larger
-pub bytes-expr : walked print_expr (replicate 65537 97) (literal 65537) 0 700 65538 ≡ 8 ∷ 1 ∷ []
+pub bytes_expr : walked print_expr (replicate 65537 97) (literal 65537) 0 700 65538 ≡ 8 ∷ 1 ∷ []
 unfolding computing report literal walked
-bytes-expr = refl
+bytes_expr = refl
 
 pub bytes_declar : walked print_declar (replicate 65537 97) (literal 65537) 0 700 65538 ≡ 8 ∷ 13 ∷ []
 unfolding computing report literal walked

@@ -12,7 +12,7 @@ use borrow.Author.Tests.{le-leb, lt-ltb, le-ltb, lt-leb, eq-eqb, ne_eqb}
 use Rattle.document.specs.Doc.{Doc, text, join, break, nest, group, row_count, has_break, first_break, through, text_bytes}
 use Rattle.document.specs.Rows.{word}
 use Rattle.document.specs.Stored.{own_row, stored}
-use Rattle.document.proofs.Holds.{Holds, holds-left, holds_at}
+use Rattle.document.proofs.Holds.{Holds, holds_left, holds_at}
 use Rattle.document.proofs.ReadBack.{split, own, right_rows}
 use Rattle.layout.specs.declared.cursor.Cursor.{Cursor}
 use Rattle.layout.specs.Layout.{testᵖ, after, run, fits, layout}
@@ -109,11 +109,11 @@ unfolding rows_on
 rows_on_last from n k e = ap (rows_on from) (let f : k ≡ n + 1 = omega arith in f) ∙ rows_on_append from n 1
 
 module _ (rows : List ℕ) where
-  nest-append : (r : ℕ) (xs ys : List ℕ) → nest_of rows r (xs ++ ys) ≡ nest_of rows r xs + nest_of rows r ys
+  nest_append : (r : ℕ) (xs ys : List ℕ) → nest_of rows r (xs ++ ys) ≡ nest_of rows r xs + nest_of rows r ys
   unfolding nest_of
-  nest-append r [] ys = let e : nest_of rows r ys ≡ 0 + nest_of rows r ys = omega arith in e
-  nest-append r (a ∷ xs) ys =
-      let h = nest-append r xs ys in
+  nest_append r [] ys = let e : nest_of rows r ys ≡ 0 + nest_of rows r ys = omega arith in e
+  nest_append r (a ∷ xs) ys =
+      let h = nest_append r xs ys in
       let here : ℕ = cond (eqb (word rows a 0) 3 && around rows r a) (word rows a 1) 0 in
       let e : here + nest_of rows r (xs ++ ys) ≡ here + nest_of rows r xs + nest_of rows r ys = omega arith in
       e
@@ -149,26 +149,26 @@ module _ (rows : List ℕ) where
   pub record Own (r kind field count : ℕ) : Type 0 where
     pub kind_is : word rows r 0 ≡ kind
     pub field_is : word rows r 1 ≡ field
-    pub count-is : word rows r 3 ≡ count
+    pub count_is : word rows r 3 ≡ count
 
   pub own_nest : (m : ℕ) (d : Doc) (t from : ℕ) → Holds rows (from * 7) (stored t (nest m d)) → Own (from + row_count d) 3 m (1 + row_count d)
   unfolding own_row row_count
   own_nest m d t from h =
       let o = own rows (nest m d) t from (from + row_count d) (omega arith) h in
-      record { kind_is = holds_at _ 0 (omega arith) o; field_is = holds_at _ 1 (omega arith) o; count-is = holds_at _ 3 (omega arith) o }
+      record { kind_is = holds_at _ 0 (omega arith) o; field_is = holds_at _ 1 (omega arith) o; count_is = holds_at _ 3 (omega arith) o }
 
   pub own_group : (d : Doc) (t from : ℕ) → Holds rows (from * 7) (stored t (group d)) → Own (from + row_count d) 4 0 (1 + row_count d)
   unfolding own_row row_count
   own_group d t from h =
       let o = own rows (group d) t from (from + row_count d) (omega arith) h in
-      record { kind_is = holds_at _ 0 (omega arith) o; field_is = holds_at _ 1 (omega arith) o; count-is = holds_at _ 3 (omega arith) o }
+      record { kind_is = holds_at _ 0 (omega arith) o; field_is = holds_at _ 1 (omega arith) o; count_is = holds_at _ 3 (omega arith) o }
 
   own_join : (a b : Doc) (t from : ℕ) → Holds rows (from * 7) (stored t (join a b))
       → Own (from + (row_count a + row_count b)) 1 0 (1 + row_count a + row_count b)
   unfolding own_row row_count
   own_join a b t from h =
       let o = own rows (join a b) t from (from + (row_count a + row_count b)) (omega arith) h in
-      record { kind_is = holds_at _ 0 (omega arith) o; field_is = holds_at _ 1 (omega arith) o; count-is = holds_at _ 3 (omega arith) o }
+      record { kind_is = holds_at _ 0 (omega arith) o; field_is = holds_at _ 1 (omega arith) o; count_is = holds_at _ 3 (omega arith) o }
 
   -- the subtree of each row of a stored document starts in the document
   subtree_inside : (d : Doc) (t from i : ℕ) → Holds rows (from * 7) (stored t d) → from ≤ i → i < from + row_count d → from + word rows i 3 ≤ i + 1
@@ -178,14 +178,14 @@ module _ (rows : List ℕ) where
       let w : word rows from 3 ≡ 1 = holds_at _ 3 (omega arith) h in
       rw e (omega arith)
   subtree_inside (join a b) t from i h p q =
-      ⊎_elim (λ (x : i < from + row_count a). subtree_inside a t from i (holds-left _ _ h) p x)
+      ⊎_elim (λ (x : i < from + row_count a). subtree_inside a t from i (holds_left _ _ h) p x)
       (λ (x : from + row_count a ≤ i).
       ⊎_elim
       (λ (y : i < from + row_count a + row_count b).
       let z = subtree_inside b (t + length (text_bytes a)) (from + row_count a) i (right_rows rows a b t from h) x y in omega arith)
       (λ (y : from + row_count a + row_count b ≤ i).
       let e : i ≡ from + (row_count a + row_count b) = omega arith in
-      let w = (own_join a b t from h).count-is in
+      let w = (own_join a b t from h).count_is in
       rw e (omega arith))
       (split i (from + row_count a + row_count b)))
       (split i (from + row_count a))
@@ -194,12 +194,12 @@ module _ (rows : List ℕ) where
       let w : word rows from 3 ≡ 1 = holds_at _ 3 (omega arith) h in
       rw e (omega arith)
   subtree_inside (nest m d) t from i h p q =
-      ⊎_elim (λ (x : i < from + row_count d). subtree_inside d t from i (holds-left _ _ h) p x)
-      (λ (x : from + row_count d ≤ i). let e : i ≡ from + row_count d = omega arith in let w = (own_nest m d t from h).count-is in rw e (omega arith))
+      ⊎_elim (λ (x : i < from + row_count d). subtree_inside d t from i (holds_left _ _ h) p x)
+      (λ (x : from + row_count d ≤ i). let e : i ≡ from + row_count d = omega arith in let w = (own_nest m d t from h).count_is in rw e (omega arith))
       (split i (from + row_count d))
   subtree_inside (group d) t from i h p q =
-      ⊎_elim (λ (x : i < from + row_count d). subtree_inside d t from i (holds-left _ _ h) p x)
-      (λ (x : from + row_count d ≤ i). let e : i ≡ from + row_count d = omega arith in let w = (own_group d t from h).count-is in rw e (omega arith))
+      ⊎_elim (λ (x : i < from + row_count d). subtree_inside d t from i (holds_left _ _ h) p x)
+      (λ (x : from + row_count d ≤ i). let e : i ≡ from + row_count d = omega arith in let w = (own_group d t from h).count_is in rw e (omega arith))
       (split i (from + row_count d))
 
   -- so none is around a row before it; nor is a row around a later one
@@ -222,13 +222,13 @@ module _ (rows : List ℕ) where
     module _ (r : ℕ) (low : from ≤ r) (high : r < from + n) where
       own_tested : (q : ℕ) → eqb (word rows (from + n) 0) q && around rows r (from + n) ≡ eqb kind q
       own_tested q =
-          ap₂ ◌&&◌ (ap (λ (k : ℕ). eqb k q) o.kind_is) (own_around r from n o.count-is low high) ∙ and-true (eqb kind q)
+          ap₂ ◌&&◌ (ap (λ (k : ℕ). eqb k q) o.kind_is) (own_around r from n o.count_is low high) ∙ and-true (eqb kind q)
 
       pub own_nests : nest_of rows r (rows_on from (1 + n)) ≡ nest_of rows r (rows_on from n) + cond (eqb kind 3) field 0
       unfolding nest_of
       own_nests =
           ap (nest_of rows r) (rows_on_last from n (1 + n) refl)
-          ∙ nest-append r (rows_on from n) ((from + n) ∷ [])
+          ∙ nest_append r (rows_on from n) ((from + n) ∷ [])
           ∙ ap₂ (λ (b : Bool) (m : ℕ). nest_of rows r (rows_on from n) + (cond b m 0 + 0)) (own_tested 3) o.field_is
           ∙ ap (λ (m : ℕ). nest_of rows r (rows_on from n) + m) (add-zero (cond (eqb kind 3) field 0))
 
@@ -247,8 +247,8 @@ module _ (rows : List ℕ) where
     pub join_own : Own (from + (row_count a + row_count b)) 1 0 (1 + (row_count a + row_count b))
     join_own =
         let o = own_join a b t from h in
-        let c = o.count-is in
-        record { kind_is = o.kind_is; field_is = o.field_is; count-is = omega arith }
+        let c = o.count_is in
+        record { kind_is = o.kind_is; field_is = o.field_is; count_is = omega arith }
 
     pub right_not_around : (i : ℕ) → i < from + row_count a → (j : ℕ) → from + row_count a ≤ j → j < from + row_count a + row_count b → around rows i j ≡ false
     right_not_around i q j u v =
@@ -261,7 +261,7 @@ module _ (rows : List ℕ) where
         own_nests from (row_count a + row_count b) 1 0 join_own i p q
         ∙ add-zero (nest_of rows i (rows_on from (row_count a + row_count b)))
         ∙ ap (nest_of rows i) (rows_on_append from (row_count a) (row_count b))
-        ∙ nest-append i (rows_on from (row_count a)) (rows_on (from + row_count a) (row_count b))
+        ∙ nest_append i (rows_on from (row_count a)) (rows_on (from + row_count a) (row_count b))
 
     join_fails : (fails : ℕ → Bool) (i : ℕ) → from ≤ i → i < from + (row_count a + row_count b)
         → all_failed fails rows i (rows_on from (1 + (row_count a + row_count b)))

@@ -10,7 +10,7 @@ use lib.Dec.{eqb}
 use Rattle.document.specs.Doc.{Doc, text, join, break, nest, group, row_count, has_break, first_break, through, text_bytes}
 use Rattle.document.specs.Rows.{word}
 use Rattle.document.specs.Stored.{own_row, stored}
-use Rattle.document.proofs.Holds.{Holds, holds_front, holds-left, holds_at}
+use Rattle.document.proofs.Holds.{Holds, holds_front, holds_left, holds_at}
 use Rattle.document.proofs.ReadBack.{right_rows}
 use Rattle.layout.specs.declared.cursor.Cursor.{Cursor}
 use Rattle.layout.specs.Layout.{Piece, testᵖ, after, run, placed, fits, layout, start, pieces}
@@ -104,11 +104,11 @@ module _ (rows : List ℕ) where
         → ◌≡◌ {A = Met} (record { row = r; piece = placed flat blank n }) (record { row = r; piece = placed flat' blank n' })
     met-same r flat flat' blank n n' e f = ap₂ (λ (b : Bool) (m : ℕ). record { row = r; piece = placed b blank m }) e f
 
-    or-not-and-not : (f a : Bool) → f || not a ≡ not (a && not f)
-    or-not-and-not true true = refl
-    or-not-and-not true false = refl
-    or-not-and-not false true = refl
-    or-not-and-not false false = refl
+    or_not_and_not : (f a : Bool) → f || not a ≡ not (a && not f)
+    or_not_and_not true true = refl
+    or_not_and_not true false = refl
+    or_not_and_not false true = refl
+    or_not_and_not false false = refl
 
     places_of_join : (a b : Doc) (t from n : ℕ) (flat : Bool) → Holds rows (from * 7) (stored t (join a b))
         → break_rows rows (said flat n from (row_count a)) (rows_on from (row_count a))
@@ -194,23 +194,23 @@ module _ (rows : List ℕ) where
         let x : ℕ = row_count a in
         places_append (met_from w a from n flat mid c) (met_from w b (from + x) n flat next m)
         ∙ ap₂ ◌++◌
-        (places_are a t from n flat mid c (holds-left _ _ h) (fails_left w fails from n a b flat next c fs))
+        (places_are a t from n flat mid c (holds_left _ _ h) (fails_left w fails from n a b flat next c fs))
         (places_are b (t + length (text_bytes a)) (from + x) n flat next m (right_rows rows a b t from h) (fails_right w fails from n a b flat next c fs))
         ∙ places_of_join a b t from n flat h
         ∙ ap (λ (z : ℕ). break_rows rows (said flat n from z) (rows_on from z)) (let e : 1 + (x + row_count b) ≡ 1 + x + row_count b = omega arith in e)
     places_are (break k) t from n true next c h fs = places_of_break k t from n true h
     places_are (break k) t from n false next c h fs = places_of_break k t from n false h
     places_are (nest m d) t from n flat next c h fs =
-        places_are d t from (n + m) flat next c (holds-left _ _ h) (λ i p q. fs i p (omega arith))
+        places_are d t from (n + m) flat next c (holds_left _ _ h) (λ i p q. fs i p (omega arith))
         ∙ places_of_node d from n (n + m) 3 m flat flat (own_nest rows m d t from h) refl refl (λ b. ap (λ (x : Bool). flat || not x) (sym (and-true b)))
     places_are (group d) t from n true next c h fs =
-        places_are d t from n true next c (holds-left _ _ h) (λ i p q. fs i p (omega arith))
+        places_are d t from n true next c (holds_left _ _ h) (λ i p q. fs i p (omega arith))
         ∙ places_of_node d from n n 4 0 true true (own_group rows d t from h) refl (add-zero n) (λ b. refl)
     places_are (group d) t from n false next c h fs =
         let f : Bool = fits c d next in
-        places_are d t from n f next (after w c (testᵖ f)) (holds-left _ _ h) (fails_inside w fails from n d next c fs)
+        places_are d t from n f next (after w c (testᵖ f)) (holds_left _ _ h) (fails_inside w fails from n d next c fs)
         ∙ places_of_node d from n n 4 0 false f (own_group rows d t from h) refl (add-zero n)
-        (λ b. or-not-and-not f b ∙ ap (λ (x : Bool). not (b && x)) (sym (fails_here w fails from n d next c fs)))
+        (λ b. or_not_and_not f b ∙ ap (λ (x : Bool). not (b && x)) (sym (fails_here w fails from n d next c fs)))
 
 -- of a whole document: each break row is broken exactly if every group around it failed the fit test, and its nest is the sum of those around it
 pub places_of_rows : (w : ℕ) (d : Doc) (more_rows : List ℕ)

@@ -16,9 +16,9 @@ use Rattle.lister.specs.Prints.{Outcome, sizes_ok, after_walk, document_cleared}
 use Rattle.lister.proofs.NumberLaws.{names, document, row_area, text_area, refusal_reports}
 use Rattle.third_property.specs.ThirdProperty.{Print, Run, Returned, Rooted, Succeeded, defined, walked, laid}
 use Rattle.third_property.specs.Success.{row_events, byte_events, Fits, Refused, too_many_names, byte_past_limit, text_area_full, row_past_limit}
-use Rattle.third_property.specs.Success.{row_area_full, FirstRefused, DocumentFits, Reports, Ends, success, listing-short, stop, Decided}
+use Rattle.third_property.specs.Success.{row_area_full, FirstRefused, DocumentFits, Reports, Ends, success, listing_short, stop, Decided}
 use Rattle.third_property.proofs.SuccessLaws.{rows_are, bytes_are, all_pass, first_stops, Walked, passed, met, walked_by}
-use Rattle.third_property.proofs.ThirdProperty.{walk_is, answer-is}
+use Rattle.third_property.proofs.ThirdProperty.{walk_is, answer_is}
 
 -- an event's refusal is answered under its number, at its place
 stop_reports : {R T rows bytes : ℕ} {e : Event} {n at : ℕ} → Refused R T rows bytes e n at → (number (stop_answer n at) ≡ n) × (place (stop_answer n at) ≡ at)
@@ -29,12 +29,12 @@ stop_reports (row_past_limit h) = refusal_reports (document _)
 stop_reports (row_area_full h k) = refusal_reports (row_area _)
 
 -- and no refusal has the number 0
-refused-some : {R T rows bytes : ℕ} {e : Event} {n at : ℕ} → Refused R T rows bytes e n at → 1 ≤ n
-refused-some (too_many_names p c h) = omega arith
-refused-some (byte_past_limit h) = omega arith
-refused-some (text_area_full h k) = omega arith
-refused-some (row_past_limit h) = omega arith
-refused-some (row_area_full h k) = omega arith
+refused_some : {R T rows bytes : ℕ} {e : Event} {n at : ℕ} → Refused R T rows bytes e n at → 1 ≤ n
+refused_some (too_many_names p c h) = omega arith
+refused_some (byte_past_limit h) = omega arith
+refused_some (text_area_full h k) = omega arith
+refused_some (row_past_limit h) = omega arith
+refused_some (row_area_full h k) = omega arith
 
 module _ {k : Print} (r : Run k) (returned : Returned r) (rooted : Rooted r) (ok : sizes_ok r.indent r.width ≡ true) where
   abbrev R : ℕ
@@ -63,7 +63,7 @@ module _ {k : Print} (r : Run k) (returned : Returned r) (rooted : Rooted r) (ok
       all_pass R T (events (defined r)) fits d.names ∙ ap₂ going e f
 
   answered : DocumentFits r → r.answer ≡ cond (ltb (length r.lent.listing) size) Listing (Done (counts_of rows bytes (laid r)))
-  answered d = answer-is r returned rooted ok rows bytes (goes d)
+  answered d = answer_is r returned rooted ok rows bytes (goes d)
 
   done : DocumentFits r → size ≤ length r.lent.listing → Succeeded r
   done d h =
@@ -104,24 +104,24 @@ module _ {k : Print} (r : Run k) (returned : Returned r) (rooted : Rooted r) (ok
           }
 
       by : (b : Bool) → ltb (length r.lent.listing) size ≡ b → Ends r
-      by true e = let h = ltb-true (length r.lent.listing) size e in listing-short d h (too_short d h)
+      by true e = let h = ltb-true (length r.lent.listing) size e in listing_short d h (too_short d h)
       by false e = let h = ltb-false (length r.lent.listing) size e in success d h (done d h)
   course_of (met n at f) = stop n at f (stopped_at_lem n at f)
 
   -- a success is none of the refusals
-  not-refused : Ends r → Succeeded r → DocumentFits r × (size ≤ length r.lent.listing)
+  not_refused : Ends r → Succeeded r → DocumentFits r × (size ≤ length r.lent.listing)
   unfolding number
-  not-refused (success d h s) t = (d, h)
-  not-refused (listing-short d h a) t = absurd (let e : number r.answer ≡ 0 = ap number t.answered in omega (arith, a.0))
-  not-refused (stop n at f a) t =
-      absurd (let e : number r.answer ≡ 0 = ap number t.answered in let g = refused-some f.refused in omega (arith, a.0))
+  not_refused (success d h s) t = (d, h)
+  not_refused (listing_short d h a) t = absurd (let e : number r.answer ≡ 0 = ap number t.answered in omega (arith, a.0))
+  not_refused (stop n at f a) t =
+      absurd (let e : number r.answer ≡ 0 = ap number t.answered in let g = refused_some f.refused in omega (arith, a.0))
 
   pub decided : Decided r
   decided =
       let ends : Ends r = course_of (walked_by R T (events (defined r))) in
       record {
         ends = ends;
-        fits = λ s. not-refused ends s;
+        fits = λ s. not_refused ends s;
         succeeds = λ d h. done d h;
         short = λ d h. too_short d h;
         stops = λ n at f. stopped_at_lem n at f;

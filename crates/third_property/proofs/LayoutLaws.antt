@@ -8,7 +8,7 @@ use lib.ListN.{length, replicate, take, drop, length-append, length-replicate}
 use borrow.Author.Tests.{leb-true}
 use Rattle.document.specs.Doc.{Doc, text, join, break, nest, group, flat_size, has_break, first_break, through, either, row_count, text_bytes}
 use Rattle.document.specs.Stored.{stored, Fine}
-use Rattle.document.proofs.ReadBack.{stored_reads_back, stored-accepted}
+use Rattle.document.proofs.ReadBack.{stored_reads_back, stored_accepted}
 use Rattle.layout.specs.declared.cursor.Cursor.{Cursor}
 use Rattle.layout.specs.Layout.{Piece, textᵖ, blankᵖ, newlineᵖ, testᵖ, after, run, fits, layout, start, pieces}
 use Rattle.layout.specs.Listing.{bytes_of, broken_places, lines, longest_row}
@@ -16,7 +16,7 @@ use Rattle.layout.specs.Paint.{paint}
 use Rattle.layout.specs.Call.{listed, outcome}
 use Rattle.third_property.specs.Claims.{put_back, restored, in_order, Row, rows_from, rows_in, joined, Within}
 use Rattle.layout.proofs.Pieces.{run-append}
-use Rattle.layout.proofs.Answers.{answer-listed}
+use Rattle.layout.proofs.Answers.{answer_listed}
 
 -- ---- blanks put back
 
@@ -59,10 +59,10 @@ through_at_most_flat (break k) next = omega arith
 through_at_most_flat (nest m d) next = through_at_most_flat d next
 through_at_most_flat (group d) next = through_at_most_flat d next
 
-through-join : (x y na nb next : ℕ) → through x na (through y nb next) ≡ through (either x y) (through x na nb) next
-through-join zero zero na nb next = omega arith
-through-join zero (suc y) na nb next = refl
-through-join (suc x) y na nb next = refl
+through_join : (x y na nb next : ℕ) → through x na (through y nb next) ≡ through (either x y) (through x na nb) next
+through_join zero zero na nb next = omega arith
+through_join zero (suc y) na nb next = refl
+through_join (suc x) y na nb next = refl
 
 -- what is left of a row that holds an unbroken place, to the next break, is within the width; and a flat document is, with what follows it
 within : (w : ℕ) (d : Doc) (n : ℕ) (flat : Bool) (next : ℕ) (c : Cursor) (row : List ℕ) (held : Bool) (rest : List Piece)
@@ -83,7 +83,7 @@ within w (join a b) n flat next c row held rest e h f k =
     let qs = layout w b n flat next m in
     subst (λ (z : List Piece). Within w (rows_from row held z)) (sym (append_assoc ps qs rest))
     (within w a n flat mid c row held (qs ++ rest) e
-    (λ p. subst (λ (z : ℕ). length row + z ≤ w) (sym (through-join (has_break a) (has_break b) (first_break a) (first_break b) next)) (h p))
+    (λ p. subst (λ (z : ℕ). length row + z ≤ w) (sym (through_join (has_break a) (has_break b) (first_break a) (first_break b) next)) (h p))
     (λ p. let q = f p in let g = through_at_most_flat b next in omega arith)
     (λ row' held' e' h' f'.
     within w b n flat next m row' held' rest e' h'
@@ -110,13 +110,13 @@ within w (group d) n false next c row held rest e h f k =
 -- ---- rows joined by newlines
 
 -- there is a row after a newline
-joined-next : (r : Row) (row : List ℕ) (held : Bool) (ps : List Piece) → joined (r ∷ rows_from row held ps) ≡ r.bytes ++ (10 ∷ joined (rows_from row held ps))
+joined_next : (r : Row) (row : List ℕ) (held : Bool) (ps : List Piece) → joined (r ∷ rows_from row held ps) ≡ r.bytes ++ (10 ∷ joined (rows_from row held ps))
 unfolding joined rows_from
-joined-next r row held [] = refl
-joined-next r row held (textᵖ s ∷ ps) = joined-next r (row ++ s) held ps
-joined-next r row held (blankᵖ k ∷ ps) = joined-next r (row ++ replicate k 32) true ps
-joined-next r row held (newlineᵖ k n ∷ ps) = refl
-joined-next r row held (testᵖ f ∷ ps) = joined-next r row held ps
+joined_next r row held [] = refl
+joined_next r row held (textᵖ s ∷ ps) = joined_next r (row ++ s) held ps
+joined_next r row held (blankᵖ k ∷ ps) = joined_next r (row ++ replicate k 32) true ps
+joined_next r row held (newlineᵖ k n ∷ ps) = refl
+joined_next r row held (testᵖ f ∷ ps) = joined_next r row held ps
 
 joined_from : (row : List ℕ) (held : Bool) (ps : List Piece) → joined (rows_from row held ps) ≡ row ++ bytes_of ps
 unfolding joined rows_from bytes_of
@@ -124,12 +124,12 @@ joined_from row held [] = sym (append-nil row)
 joined_from row held (textᵖ s ∷ ps) = joined_from (row ++ s) held ps ∙ append_assoc row s (bytes_of ps)
 joined_from row held (blankᵖ k ∷ ps) = joined_from (row ++ replicate k 32) true ps ∙ append_assoc row (replicate k 32) (bytes_of ps)
 joined_from row held (newlineᵖ k n ∷ ps) =
-    joined-next (record { bytes = row; held = held }) (replicate n 32) false ps ∙ ap (λ (l : List ℕ). row ++ (10 ∷ l)) (joined_from (replicate n 32) false ps)
+    joined_next (record { bytes = row; held = held }) (replicate n 32) false ps ∙ ap (λ (l : List ℕ). row ++ (10 ∷ l)) (joined_from (replicate n 32) false ps)
 joined_from row held (testᵖ f ∷ ps) = joined_from row held ps
 
 -- the rows, joined by newlines, are the listing
-pub rows-joined : (ps : List Piece) → joined (rows_in ps) ≡ bytes_of ps
-rows-joined ps = joined_from [] false ps
+pub rows_joined : (ps : List Piece) → joined (rows_in ps) ≡ bytes_of ps
+rows_joined ps = joined_from [] false ps
 
 -- ---- the clauses, of a whole document
 
@@ -143,9 +143,9 @@ pub width_changes_breaks_only : (width width' : ℕ) (d : Doc) → restored (pie
 width_changes_breaks_only width width' d = blanks_put_back width d ∙ sym (blanks_put_back width' d)
 
 -- each row that holds an unbroken place is at most the width
-pub held-rows-within-width : (width : ℕ) (d : Doc) → Within width (rows_in (pieces width d))
+pub held_rows_within_width : (width : ℕ) (d : Doc) → Within width (rows_in (pieces width d))
 unfolding pieces rows_from Within
-held-rows-within-width width d =
+held_rows_within_width width d =
     subst (λ (z : List Piece). Within width (rows_from [] false z)) (append-nil (pieces width d))
     (within width d 0 false 0 (start width) [] false [] (omega arith) (never_true _) (never_true _)
     (λ row' held' e' h' f'. ((λ p. let q = h' p in omega arith), tt)))
@@ -192,9 +192,9 @@ painted_area (x ∷ l) [] = refl
 painted_area (x ∷ l) (y ∷ s) = ap (λ (t : List ℕ). y ∷ t) (painted_area l s)
 
 -- a stored document is laid out
-pub stored-is-listed : (d : Doc) → Fine d → (more_rows more_texts : List ℕ) (width : ℕ) (l : List ℕ) → row_count d ≤ 16384 → length (text_bytes d) ≤ 65536 → width ≤ 65535
+pub stored_is_listed : (d : Doc) → Fine d → (more_rows more_texts : List ℕ) (width : ℕ) (l : List ℕ) → row_count d ≤ 16384 → length (text_bytes d) ≤ 65536 → width ≤ 65535
     → outcome (stored 0 d ++ more_rows) (row_count d) (text_bytes d ++ more_texts) (length (text_bytes d)) width l ≡ listed (row_count d) (length (text_bytes d)) (pieces width d) l
-stored-is-listed d fine more_rows more_texts width l few small narrow =
-    let a = stored-accepted d more_rows more_texts fine few small in
-    sym (answer-listed (stored 0 d ++ more_rows) (row_count d) (text_bytes d ++ more_texts) (length (text_bytes d)) width a.counts a.faultless l narrow)
+stored_is_listed d fine more_rows more_texts width l few small narrow =
+    let a = stored_accepted d more_rows more_texts fine few small in
+    sym (answer_listed (stored 0 d ++ more_rows) (row_count d) (text_bytes d ++ more_texts) (length (text_bytes d)) width a.counts a.faultless l narrow)
     ∙ ap (λ (z : Doc). listed (row_count d) (length (text_bytes d)) (pieces width z) l) (stored_reads_back d more_rows more_texts)

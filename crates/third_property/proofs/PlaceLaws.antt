@@ -173,17 +173,17 @@ same_forgotten a b =
     (λ h. forgets_same a b (sym (forget_twice a) ∙ same_forgets (forget a) (forget b) h ∙ forget_twice b))
     (λ h. forgets_same (forget a) (forget b) (ap forget (same_forgets a b h)))
 
-same-group-plain : (b c : Binder) → same_group (plainᵇ b) (plainᵇ c) ≡ same_group b c
+same_group_plain : (b c : Binder) → same_group (plainᵇ b) (plainᵇ c) ≡ same_group b c
 unfolding same_group
-same-group-plain b c = ap (λ (x : Bool). not (eqb b.style 3) && (eqb b.style c.style && x)) (same_forgotten b.type c.type)
+same_group_plain b c = ap (λ (x : Bool). not (eqb b.style 3) && (eqb b.style c.style && x)) (same_forgotten b.type c.type)
 
 arrow_plain : (b : Binder) → is_arrow (plainᵇ b) ≡ is_arrow b
 unfolding is_arrow
 arrow_plain b = refl
 
-named-plain : (b : Binder) → is_named_pi (plainᵇ b) ≡ is_named_pi b
+named_plain : (b : Binder) → is_named_pi (plainᵇ b) ≡ is_named_pi b
 unfolding is_named_pi is_arrow
-named-plain b = refl
+named_plain b = refl
 
 along_plain : (b c : Binder) → goes_along (plainᵇ b) (plainᵇ c) ≡ goes_along b c
 unfolding goes_along is_named_pi is_arrow
@@ -202,28 +202,28 @@ binders-forget (proj n i e) = refl
 binders-forget (nat s) = refl
 binders-forget (str s) = refl
 
-body-forget : (e : Expr) → chain_body (forget e) ≡ forget (chain_body e)
+body_forget : (e : Expr) → chain_body (forget e) ≡ forget (chain_body e)
 unfolding chain_body forget
-body-forget (var i) = refl
-body-forget (sort l) = refl
-body-forget (const n ls) = refl
-body-forget (app f a) = refl
-body-forget (pi p n s t b) = body-forget b
-body-forget (lam p n s t b) = body-forget b
-body-forget (letᵉ p n t v b d) = refl
-body-forget (proj n i e) = refl
-body-forget (nat s) = refl
-body-forget (str s) = refl
+body_forget (var i) = refl
+body_forget (sort l) = refl
+body_forget (const n ls) = refl
+body_forget (app f a) = refl
+body_forget (pi p n s t b) = body_forget b
+body_forget (lam p n s t b) = body_forget b
+body_forget (letᵉ p n t v b d) = refl
+body_forget (proj n i e) = refl
+body_forget (nat s) = refl
+body_forget (str s) = refl
 
 pushed-plain : (bs : List Binder) (ns : NamesInForce) → pushed (map plainᵇ bs) ns ≡ pushed bs ns
 unfolding pushed
 pushed-plain [] ns = refl
 pushed-plain (b ∷ bs) ns = pushed-plain bs (b.name ∷ ns)
 
-names-plain : (bs : List Binder) → map binder_name (map plainᵇ bs) ≡ map binder_name bs
+names_plain : (bs : List Binder) → map binder_name (map plainᵇ bs) ≡ map binder_name bs
 unfolding binder_name
-names-plain [] = refl
-names-plain (b ∷ bs) = ap (λ (l : List Marked). binder_name b ∷ l) (names-plain bs)
+names_plain [] = refl
+names_plain (b ∷ bs) = ap (λ (l : List Marked). binder_name b ∷ l) (names_plain bs)
 
 like_in_force : (bs : List Binder) (outside : ℕ) (d e : Marked) → Like d e → Like (in_force bs outside d) (in_force (map plainᵇ bs) outside e)
 unfolding in_force
@@ -241,7 +241,7 @@ module _ (opts : PpOptions) (pp : Expr → Parenable) (like : (e : Expr) → Ali
       (like_group
       (like_join
       (like_join itself
-      (like_join (like_join (like_join (like_join (record { bared = ap (λ (l : List Marked). bare (tile l)) (sym (names-plain (b ∷ bs))) }) itself) itself) itself)
+      (like_join (like_join (like_join (like_join (record { bared = ap (λ (l : List Marked). bare (tile l)) (sym (names_plain (b ∷ bs))) }) itself) itself) itself)
       (like_group (like_under 1 (like b.type)))))
       itself))
 
@@ -249,7 +249,7 @@ module _ (opts : PpOptions) (pp : Expr → Parenable) (like : (e : Expr) → Ali
   unfolding telescope
   like_telescope bs =
       subst (λ (l : List (List Binder)). Like (tile (map (group_doc opts pp) (runs same_group bs))) (tile (map (group_doc opts pp) l)))
-      (sym (runs_map plainᵇ same_group same_group same-group-plain bs))
+      (sym (runs_map plainᵇ same_group same_group same_group_plain bs))
       (like_tile (map (group_doc opts pp) (runs same_group bs)) (map (group_doc opts pp) (map (map plainᵇ) (runs same_group bs)))
       (like_maps (map plainᵇ) (group_doc opts pp) (group_doc opts pp) like_group_doc (runs same_group bs)))
 
@@ -383,9 +383,9 @@ module _ (opts : PpOptions) where
       (subst (λ (x : List Expr). Alike (app_par opts pp (app_head f) (app_args f (a ∷ []))) (app_par opts pp (forget (app_head f)) x)) (sym (args_forget f (a ∷ [])))
       (alike_app opts pp (alike_to k ns) (app_head f) (app_args f (a ∷ []))))
   alike_to (suc k) ns (pi p n s t b) =
-      chain_alike k (alike_to k) ns (binders (pi p n s t b)) (binders (pi 0 n s (forget t) (forget b))) (chain_body b) (chain_body (forget b)) (binders-forget (pi p n s t b)) (body-forget b)
+      chain_alike k (alike_to k) ns (binders (pi p n s t b)) (binders (pi 0 n s (forget t) (forget b))) (chain_body b) (chain_body (forget b)) (binders-forget (pi p n s t b)) (body_forget b)
   alike_to (suc k) ns (lam p n s t b) =
-      chain_alike k (alike_to k) ns (binders (lam p n s t b)) (binders (lam 0 n s (forget t) (forget b))) (chain_body b) (chain_body (forget b)) (binders-forget (lam p n s t b)) (body-forget b)
+      chain_alike k (alike_to k) ns (binders (lam p n s t b)) (binders (lam 0 n s (forget t) (forget b))) (chain_body b) (chain_body (forget b)) (binders-forget (lam p n s t b)) (body_forget b)
   alike_to (suc k) ns (letᵉ p n t v b d) =
       alike_let p 0 (suc (length ns)) n (expr_par_to opts k ns t) (expr_par_to opts k ns v) (expr_par_to opts k (n ∷ ns) b) (expr_par_to opts k ns (forget t))
       (expr_par_to opts k ns (forget v)) (expr_par_to opts k (n ∷ ns) (forget b))
@@ -475,10 +475,10 @@ module _ (opts : PpOptions) (pp : Expr → Parenable) where
     like_axiom_part bs body =
         subst (λ (x : List Binder). Like (axiom_part bs body)
         (in_force (map plainᵇ bs) 0 (axiom_rest opts pp x (under 0 (binders_par opts pp (following is_named_pi (map plainᵇ bs)) (pp (forget body)))))))
-        (sym (leading-map plainᵇ is_named_pi is_named_pi named-plain bs))
+        (sym (leading-map plainᵇ is_named_pi is_named_pi named_plain bs))
         (subst (λ (x : List Binder). Like (axiom_part bs body) (in_force (map plainᵇ bs) 0
         (axiom_rest opts pp (map plainᵇ (leading is_named_pi bs)) (under 0 (binders_par opts pp x (pp (forget body)))))))
-        (sym (following-map plainᵇ is_named_pi is_named_pi named-plain bs))
+        (sym (following-map plainᵇ is_named_pi is_named_pi named_plain bs))
         (like_in_force bs 0 _ _
         (like_axiom_rest opts pp like (leading is_named_pi bs) _ _
         (like_under 0 (alike_binders opts pp like (following is_named_pi bs) (pp body) (pp (forget body)) (like body))))))
@@ -515,7 +515,7 @@ module _ (opts : PpOptions) where
       like_join itself
       (subst (λ (cs : List Binder). Like (part (pushed bs []) bs (chain_body type)) (part (pushed cs []) cs (chain_body (forget type)))) (sym (binders-forget type))
       (subst (λ (ns : NamesInForce). Like (part (pushed bs []) bs (chain_body type)) (part ns (map plainᵇ bs) (chain_body (forget type)))) (sym (pushed-plain bs []))
-      (subst (λ (body : Expr). Like (part (pushed bs []) bs (chain_body type)) (part (pushed bs []) (map plainᵇ bs) body)) (sym (body-forget type))
+      (subst (λ (body : Expr). Like (part (pushed bs []) bs (chain_body type)) (part (pushed bs []) (map plainᵇ bs) body)) (sym (body_forget type))
       (like_axiom_part opts (expr_par opts (pushed bs [])) (alike_expr opts (pushed bs [])) bs (chain_body type)))))
 
   def_unplaced : (kind : ℕ) (name : Name) (levels : List Level) (type value : Expr)
@@ -531,7 +531,7 @@ module _ (opts : PpOptions) where
       subst (λ (cs : List Binder). Like left (whole (pushed cs []) cs (chain_body (forget type)) (taken cs (forget value) 0))) (sym (binders-forget type))
       (subst (λ (u : Taken). Like left (whole (pushed (map plainᵇ bs) []) (map plainᵇ bs) (chain_body (forget type)) u)) (sym (taken-plain bs value 0))
       (subst (λ (ns : NamesInForce). Like left (whole ns (map plainᵇ bs) (chain_body (forget type)) (plainᵗ t))) (sym (pushed-plain bs []))
-      (subst (λ (body : Expr). Like left (whole (pushed bs []) (map plainᵇ bs) body (plainᵗ t))) (sym (body-forget type))
+      (subst (λ (body : Expr). Like left (whole (pushed bs []) (map plainᵇ bs) body (plainᵗ t))) (sym (body_forget type))
       (like_join
       (like_join itself (like_def_part opts (expr_par opts (pushed bs [])) (alike_expr opts (pushed bs [])) bs (chain_body type) t))
       (like_value_part opts (expr_par opts (pushed bs [])) (alike_expr opts (pushed bs [])) bs t)))))

@@ -30,19 +30,19 @@ bytes-append (byte ∷ xs) ys = omega (arith, bytes-append xs ys)
 bytes-append (row ∷ xs) ys = bytes-append xs ys
 bytes-append (named p c ∷ xs) ys = bytes-append xs ys
 
-text-row : (s : List ℕ) → row_events (text_events s) ≡ 1
+text_row : (s : List ℕ) → row_events (text_events s) ≡ 1
 unfolding row_events text_events
-text-row [] = refl
-text-row (b ∷ s) = text-row s
+text_row [] = refl
+text_row (b ∷ s) = text_row s
 
-text-bytes : (s : List ℕ) → byte_events (text_events s) ≡ length s
+text_bytes_lem : (s : List ℕ) → byte_events (text_events s) ≡ length s
 unfolding byte_events text_events
-text-bytes [] = refl
-text-bytes (b ∷ s) = ap suc (text-bytes s)
+text_bytes_lem [] = refl
+text_bytes_lem (b ∷ s) = ap suc (text_bytes_lem s)
 
 pub rows_are : (m : Marked) → row_events (events m) ≡ row_count (unmarked m)
 unfolding events unmarked row_count row_events
-rows_are (textᵐ s) = text-row s
+rows_are (textᵐ s) = text_row s
 rows_are (joinᵐ a b) =
     let e = rows_append (events a) (events b ++ (row ∷ [])) in
     let f = rows_append (events b) (row ∷ []) in
@@ -54,7 +54,7 @@ rows_are (names p c d) = rows_are d
 
 pub bytes_are : (m : Marked) → byte_events (events m) ≡ length (text_bytes (unmarked m))
 unfolding events unmarked text_bytes byte_events
-bytes_are (textᵐ s) = text-bytes s
+bytes_are (textᵐ s) = text_bytes_lem s
 bytes_are (joinᵐ a b) =
     let e = bytes-append (events a) (events b ++ (row ∷ [])) in
     let f = bytes-append (events b) (row ∷ []) in
@@ -93,7 +93,7 @@ module _ (R T : ℕ) where
   passes (row ∷ es) r t f n =
       let a : r + 1 + row_events es ≡ r + suc (row_events es) = omega arith in
       let g : Fits R T (r + 1 + row_events es) (t + byte_events es) = subst (λ (x : ℕ). Fits R T x (t + byte_events es)) (sym a) f in
-      ap (λ (p : Progress). steps R T p es) (row_passes r t (omega (arith, f.few-rows)) (omega (arith, f.row_area)))
+      ap (λ (p : Progress). steps R T p es) (row_passes r t (omega (arith, f.few_rows)) (omega (arith, f.row_area)))
       ∙ passes es (r + 1) t g n ∙ ap (λ (x : ℕ). going x (t + byte_events es)) a
   passes (named p c ∷ es) r t f n =
       ap (λ (p : Progress). steps R T p es) (names_pass r t p c n.0) ∙ passes es r t f n.1
@@ -106,13 +106,13 @@ module _ (R T : ℕ) where
 
   -- ---- an event that is refused stops the walk
 
-  refused-stops : (r t : ℕ) {e : Event} {number place : ℕ} → Refused R T r t e number place → step R T (going r t) e ≡ stopped number place
+  refused_stops : (r t : ℕ) {e : Event} {number place : ℕ} → Refused R T r t e number place → step R T (going r t) e ≡ stopped number place
   unfolding step
-  refused-stops r t (too_many_names p c h) = rw (lt-leb c 1024 h)
-  refused-stops r t (byte_past_limit h) = rw (le-ltb t 65536 h)
-  refused-stops r t (text_area_full h k) = rw (lt-ltb t 65536 h, le-ltb t T k)
-  refused-stops r t (row_past_limit h) = rw (le-ltb r 16384 h)
-  refused-stops r t (row_area_full h k) = rw (lt-ltb r 16384 h, lt-leb (r * 7 + 7) R k)
+  refused_stops r t (too_many_names p c h) = rw (lt-leb c 1024 h)
+  refused_stops r t (byte_past_limit h) = rw (le-ltb t 65536 h)
+  refused_stops r t (text_area_full h k) = rw (lt-ltb t 65536 h, le-ltb t T k)
+  refused_stops r t (row_past_limit h) = rw (le-ltb r 16384 h)
+  refused_stops r t (row_area_full h k) = rw (lt-ltb r 16384 h, lt-leb (r * 7 + 7) R k)
 
   stays_stopped : (n p : ℕ) (es : List Event) → steps R T (stopped n p) es ≡ stopped n p
   unfolding steps step
@@ -125,7 +125,7 @@ module _ (R T : ℕ) where
       ap (steps R T (going 0 0)) f.split
       ∙ steps-append R T (going 0 0) f.before (f.event ∷ f.after)
       ∙ ap (λ (p : Progress). steps R T p (f.event ∷ f.after)) (all_pass f.before f.fits f.names)
-      ∙ ap (λ (p : Progress). steps R T p f.after) (refused-stops (row_events f.before) (byte_events f.before) f.refused)
+      ∙ ap (λ (p : Progress). steps R T p f.after) (refused_stops (row_events f.before) (byte_events f.before) f.refused)
       ∙ stays_stopped number place f.after
 
   -- ---- one of the two is the case
@@ -148,12 +148,12 @@ module _ (R T : ℕ) where
       (subst (λ (x : ℕ). Refused R T x (t + 0) e number place) a (subst (λ (x : ℕ). Refused R T r x e number place) b h))
 
   -- an event that passes, before those of a course
-  byte-first : (r t : ℕ) (es : List Event) → Course r (t + 1) es → Course r t (byte ∷ es)
+  byte_first : (r t : ℕ) (es : List Event) → Course r (t + 1) es → Course r t (byte ∷ es)
   unfolding row_events byte_events NamesFit
-  byte-first r t es (through f n) =
+  byte_first r t es (through f n) =
       let a : t + 1 + byte_events es ≡ t + suc (byte_events es) = omega arith in
       through (subst (λ (x : ℕ). Fits R T (r + row_events es) x) a f) n
-  byte-first r t es (until before event after number place e f n h) =
+  byte_first r t es (until before event after number place e f n h) =
       let a : t + 1 + byte_events before ≡ t + suc (byte_events before) = omega arith in
       until (byte ∷ before) event after number place (ap (λ (x : List Event). byte ∷ x) e)
       (subst (λ (x : ℕ). Fits R T (r + row_events before) x) a f) n
@@ -170,10 +170,10 @@ module _ (R T : ℕ) where
       (subst (λ (x : ℕ). Fits R T x (t + byte_events before)) a f) n
       (subst (λ (x : ℕ). Refused R T x (t + byte_events before) event number place) a h)
 
-  names-first : (r t p c : ℕ) (es : List Event) → c ≤ 1024 → Course r t es → Course r t (named p c ∷ es)
+  names_first : (r t p c : ℕ) (es : List Event) → c ≤ 1024 → Course r t es → Course r t (named p c ∷ es)
   unfolding row_events byte_events NamesFit
-  names-first r t p c es l (through f n) = through f (l, n)
-  names-first r t p c es l (until before event after number place e f n h) =
+  names_first r t p c es l (through f n) = through f (l, n)
+  names_first r t p c es l (until before event after number place e f n h) =
       until (named p c ∷ before) event after number place (ap (λ (x : List Event). named p c ∷ x) e) f (l, n) h
 
   byte_course : (r t : ℕ) (es : List Event) → Fits R T r t → (Fits R T r (t + 1) → Course r (t + 1) es) → Course r t (byte ∷ es)
@@ -183,8 +183,8 @@ module _ (R T : ℕ) where
       by true e true k =
           let l = ltb-true t 65536 e in
           let m = ltb-true t T k in
-          byte-first r t es
-          (next (record { few-rows = f.few-rows; few_bytes = omega arith; row_area = f.row_area; text_area = omega arith }))
+          byte_first r t es
+          (next (record { few_rows = f.few_rows; few_bytes = omega arith; row_area = f.row_area; text_area = omega arith }))
       by true e false k = at_once r t byte es 21 r f (text_area_full (ltb-true t 65536 e) (ltb-false t T k))
       by false e y k = at_once r t byte es 8 r f (byte_past_limit (ltb-false t 65536 e))
 
@@ -196,7 +196,7 @@ module _ (R T : ℕ) where
           let l = ltb-true r 16384 e in
           let m = leb-true (r * 7 + 7) R k in
           row_first r t es
-          (next (record { few-rows = omega arith; few_bytes = f.few_bytes; row_area = omega arith; text_area = f.text_area }))
+          (next (record { few_rows = omega arith; few_bytes = f.few_bytes; row_area = omega arith; text_area = f.text_area }))
       by true e false k = at_once r t row es 20 r f (row_area_full (ltb-true r 16384 e) (leb-false (r * 7 + 7) R k))
       by false e y k = at_once r t row es 8 r f (row_past_limit (ltb-false r 16384 e))
 
@@ -204,7 +204,7 @@ module _ (R T : ℕ) where
   names_course r t p c es f next = by (leb c 1024) refl
     where
       by : (x : Bool) → leb c 1024 ≡ x → Course r t (named p c ∷ es)
-      by true e = names-first r t p c es (leb-true c 1024 e) next
+      by true e = names_first r t p c es (leb-true c 1024 e) next
       by false e = at_once r t (named p c) es 7 p f (too_many_names p c (leb-false c 1024 e))
 
   course : (es : List Event) (r t : ℕ) → Fits R T r t → Course r t es
@@ -223,12 +223,12 @@ module _ (R T : ℕ) where
     met : (number place : ℕ) → FirstRefused R T es number place → Walked es
 
   pub walked_by : (es : List Event) → Walked es
-  walked_by es = by (course es 0 0 (record { few-rows = omega arith; few_bytes = omega arith; row_area = omega arith; text_area = omega arith }))
+  walked_by es = by (course es 0 0 (record { few_rows = omega arith; few_bytes = omega arith; row_area = omega arith; text_area = omega arith }))
     where
       start : {rows bytes : ℕ} → Fits R T (0 + rows) (0 + bytes) → Fits R T rows bytes
       start f =
           record {
-            few-rows = omega (arith, f.few-rows);
+            few_rows = omega (arith, f.few_rows);
             few_bytes = omega (arith, f.few_bytes);
             row_area = omega (arith, f.row_area);
             text_area = omega (arith, f.text_area);

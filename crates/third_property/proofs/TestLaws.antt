@@ -11,7 +11,7 @@ use borrow.Author.Tests.{eq-eqb, ne_eqb}
 use Rattle.document.specs.Doc.{Doc, text, join, break, nest, group, row_count, has_break, first_break, flat_size, through, text_bytes}
 use Rattle.document.specs.Rows.{word}
 use Rattle.document.specs.Stored.{own_row, stored}
-use Rattle.document.proofs.Holds.{Holds, holds_front, holds-left, holds_at}
+use Rattle.document.proofs.Holds.{Holds, holds_front, holds_left, holds_at}
 use Rattle.document.proofs.ReadBack.{right_rows}
 use Rattle.layout.specs.declared.cursor.Cursor.{Cursor}
 use Rattle.layout.specs.Layout.{testᵖ, after, run, fits, layout, start}
@@ -30,18 +30,18 @@ not_passed_over : (fails : ℕ → Bool) (g a : ℕ) → (a ≡ g → ⊥) → f
 not_passed_over fails g a other = rw (ne_eqb a g other)
 
 module _ (rows : List ℕ) where
-  groups-append : (said : ℕ → Bool) (xs ys : List ℕ) → group_rows rows said (xs ++ ys) ≡ group_rows rows said xs + group_rows rows said ys
+  groups_append : (said : ℕ → Bool) (xs ys : List ℕ) → group_rows rows said (xs ++ ys) ≡ group_rows rows said xs + group_rows rows said ys
   unfolding group_rows
-  groups-append said [] ys = let e : group_rows rows said ys ≡ 0 + group_rows rows said ys = omega arith in e
-  groups-append said (a ∷ xs) ys = let h = groups-append said xs ys in omega arith
+  groups_append said [] ys = let e : group_rows rows said ys ≡ 0 + group_rows rows said ys = omega arith in e
+  groups_append said (a ∷ xs) ys = let h = groups_append said xs ys in omega arith
 
-  groups-same : (f g : ℕ → Bool) (from count : ℕ) → ((i : ℕ) → from ≤ i → i < from + count → f i ≡ g i)
+  groups_same : (f g : ℕ → Bool) (from count : ℕ) → ((i : ℕ) → from ≤ i → i < from + count → f i ≡ g i)
       → group_rows rows f (rows_on from count) ≡ group_rows rows g (rows_on from count)
   unfolding group_rows rows_on
-  groups-same f g from zero h = refl
-  groups-same f g from (suc count) h =
+  groups_same f g from zero h = refl
+  groups_same f g from (suc count) h =
       ap₂ (λ (b : Bool) (n : ℕ). cond (eqb (word rows from 0) 4 && b) 1 0 + n) (h from (omega arith) (omega arith))
-      (groups-same f g (suc from) count (λ i p q. h i (omega arith) (omega arith)))
+      (groups_same f g (suc from) count (λ i p q. h i (omega arith) (omega arith)))
 
   -- a node's own row, after those of its children
   own_counts : (said : ℕ → Bool) (from n kind field : ℕ) → Own rows (from + n) kind field (1 + n)
@@ -49,7 +49,7 @@ module _ (rows : List ℕ) where
   unfolding group_rows
   own_counts said from n kind field o =
       ap (group_rows rows said) (rows_on_last from n (1 + n) refl)
-      ∙ groups-append said (rows_on from n) ((from + n) ∷ [])
+      ∙ groups_append said (rows_on from n) ((from + n) ∷ [])
       ∙ ap (λ (k : ℕ). group_rows rows said (rows_on from n) + (cond (eqb k 4 && said (from + n)) 1 0 + 0)) o.kind_is
       ∙ ap (λ (x : ℕ). group_rows rows said (rows_on from n) + x) (add-zero (cond (eqb kind 4 && said (from + n)) 1 0))
 
@@ -83,11 +83,11 @@ module _ (rows : List ℕ) where
         let y : ℕ = row_count b in
         let all : ℕ → Bool = said flat from (1 + (x + y)) in
         ap₂ ◌+◌
-        (groups-same (said flat from x) all from x
+        (groups_same (said flat from x) all from x
         (λ i p q. ap (λ (z : Bool). not flat && z) (sym (left_fails rows a b t from h (failed_or_is fails i) i p q))))
-        (groups-same (said flat (from + x) y) all (from + x) y
+        (groups_same (said flat (from + x) y) all (from + x) y
         (λ i p q. ap (λ (z : Bool). not flat && z) (sym (right_fails rows a b t from h (failed_or_is fails i) i p q))))
-        ∙ sym (groups-append all (rows_on from x) (rows_on (from + x) y))
+        ∙ sym (groups_append all (rows_on from x) (rows_on (from + x) y))
         ∙ ap (group_rows rows all) (sym (rows_on_append from x y))
         ∙ sym (own_counts all from (x + y) 1 0 (join_own rows a b t from h) ∙ add-zero (group_rows rows all (rows_on from (x + y))))
 
@@ -99,7 +99,7 @@ module _ (rows : List ℕ) where
     tests_of_node d from kind field flat inner o grouped =
         let k : ℕ = row_count d in
         ap₂ (λ (x : ℕ) (b : Bool). x + cond (eqb kind 4 && b) 1 0)
-        (groups-same (said inner from k) (said flat from (1 + k)) from k
+        (groups_same (said inner from k) (said flat from (1 + k)) from k
         (λ i p q.
         let f : ℕ → Bool = failed_or_is fails i in
         let A : Bool = all_failed f rows i (rows_on from k) in
@@ -126,25 +126,25 @@ module _ (rows : List ℕ) where
         let l = counted w a n flat mid c m p e in
         outside-append x.groups (groups_from w b n flat next x.cursor).groups
         ∙ ap₂ ◌+◌
-        (tests_are a t from n flat mid c m p e (holds-left _ _ h) (fails_left w fails from n a b flat next c fs))
+        (tests_are a t from n flat mid c m p e (holds_left _ _ h) (fails_left w fails from n a b flat next c fs))
         (tests_are b (t + length (text_bytes a)) (from + row_count a) n flat next (run w c (layout w a n flat mid c)) x.cursor l.position l.end
         (right_rows rows a b t from h) (fails_right w fails from n a b flat next c fs))
         ∙ tests_of_join a b t from flat h
         ∙ ap (λ (z : ℕ). group_rows rows (said flat from z) (rows_on from z)) (let q : 1 + (row_count a + row_count b) ≡ 1 + row_count a + row_count b = omega arith in q)
     tests_are (break k) t from n flat next c m p e h fs = tests_of_leaf from 2 flat (holds_at _ 0 (omega arith) h) refl
     tests_are (nest k d) t from n flat next c m p e h fs =
-        tests_are d t from (n + k) flat next c m p e (holds-left _ _ h) (λ i u v. fs i u (omega arith))
+        tests_are d t from (n + k) flat next c m p e (holds_left _ _ h) (λ i u v. fs i u (omega arith))
         ∙ sym (add-zero (group_rows rows (said flat from (row_count d)) (rows_on from (row_count d))))
         ∙ tests_of_node d from 3 k flat flat (own_nest rows k d t from h) (λ b. ap (λ (x : Bool). not flat && x) (sym (and-true b)))
     tests_are (group d) t from n true next c m p e h fs =
-        let r = tests_are d t from n true next c m p e (holds-left _ _ h) (λ i u v. fs i u (omega arith)) in
+        let r = tests_are d t from n true next c m p e (holds_left _ _ h) (λ i u v. fs i u (omega arith)) in
         let s = tests_of_node d from 4 0 true true (own_group rows d t from h) (λ b. refl) in
         let q : 0 + outside (groups_from w d n true next m).groups ≡ group_rows rows (said true from (1 + row_count d)) (rows_on from (1 + row_count d)) = omega arith in
         q
     tests_are (group d) t from n false next c m p e h fs =
         let f : Bool = fits c d next in
         let same : f ≡ fits m d next = ap₂ (λ (x y : ℕ). leb (x + flat_size d + next) y) p e in
-        let r = tests_are d t from n f next (after w c (testᵖ f)) m p e (holds-left _ _ h) (fails_inside w fails from n d next c fs) in
+        let r = tests_are d t from n f next (after w c (testᵖ f)) m p e (holds_left _ _ h) (fails_inside w fails from n d next c fs) in
         let s = tests_of_node d from 4 0 false f (own_group rows d t from h)
         (λ b. and-not f b ∙ ap (λ (x : Bool). b && x) (sym (fails_here w fails from n d next c fs))) in
         let i = ap (λ (b : Bool). outside (groups_from w d n b next m).groups) same in

@@ -18,7 +18,7 @@ use Rattle.layout.specs.Layout.{Piece, pieces}
 use Rattle.layout.specs.Listing.{bytes_of}
 use Rattle.layout.specs.Call.{counts_of, doc_of}
 use Rattle.layout.specs.Call as layout
-use Rattle.third_property.proofs.LayoutLaws.{blanks_put_back, rows-joined, held-rows-within-width}
+use Rattle.third_property.proofs.LayoutLaws.{blanks_put_back, rows_joined, held_rows_within_width}
 use Rattle.third_property.proofs.BreakLaws.{met-pieces, places_of_rows}
 use Rattle.layout.specs.declared.Counts.{Counts}
 use Rattle.layout.specs.declared.Laid.TheVariants as laids
@@ -43,7 +43,7 @@ use Rattle.third_property.specs.Claims.{rows_in, Within}
 use Rattle.third_property.specs.Places.{pieces_of, failed, break_places}
 use Rattle.layout.proofs.Painting.{written}
 use Rattle.basics.proofs.Booleans.{true-false}
-use Rattle.pool_check.proofs.Acceptance.{accepted-is}
+use Rattle.pool_check.proofs.Acceptance.{accepted_is}
 use Rattle.third_property.proofs.WalkLaws.{Near, plain_like, walks_near}
 
 -- ---- what the definitions of the two prints share
@@ -65,7 +65,7 @@ checked-done v present ok print areas h = by (is_accepted v) refl present refl h
     by : (a : Bool) → is_accepted v ≡ a → (p : Bool) → present ≡ p
         → number (cond a (cond p (cond ok print (untouched Size areas)) (untouched Root areas)) (untouched (Answer-as-Pool v) areas)).answer ≡ 0
         → (v ≡ verdicts.Accepted) × (present ≡ true)
-    by true e true f h = (accepted-is v e, f)
+    by true e true f h = (accepted_is v e, f)
     by true e false f h = absurd (omega arith)
     by false e p f h = true-false (sym (eq-eqb (verdicts·number v) 0 h) ∙ e)
 
@@ -85,8 +85,8 @@ unfolding root_doc SameTree
 roots_like expression indent p r q s h = expr_like (indented indent) (expr_at p r) (expr_at q s) h
 roots_like declaration indent p r q s h = declar_like (indented indent) (declar_at p r) (declar_at q s) h
 
-small-indent : (indent width : ℕ) → sizes_ok indent width ≡ true → indent ≤ 64
-small-indent indent width e = by (leb indent 64) refl e
+small_indent : (indent width : ℕ) → sizes_ok indent width ≡ true → indent ≤ 64
+small_indent indent width e = by (leb indent 64) refl e
   where
     by : (b : Bool) → leb indent 64 ≡ b → b && leb width 65535 ≡ true → indent ≤ 64
     by true h k = leb-true indent 64 h
@@ -94,9 +94,9 @@ small-indent indent width e = by (leb indent 64) refl e
 
 -- ---- a stopped walk's answer
 
-stop-number : (n p : ℕ) → 1 ≤ number (stop_answer n p)
+stop_number : (n p : ℕ) → 1 ≤ number (stop_answer n p)
 unfolding stop_answer number
-stop-number n p = by (eqb n 7) (eqb n 8) (eqb n 20)
+stop_number n p = by (eqb n 7) (eqb n 8) (eqb n 20)
   where
     by : (a b c : Bool) → 1 ≤ number (cond a (Names p) (cond b (Document p) (cond c (RowArea p) (TextArea p))))
     by true b c = omega arith
@@ -104,9 +104,9 @@ stop-number n p = by (eqb n 7) (eqb n 8) (eqb n 20)
     by false false true = omega arith
     by false false false = omega arith
 
-stop-same-number : (n p q : ℕ) → number (stop_answer n p) ≡ number (stop_answer n q)
+stop_same_number : (n p q : ℕ) → number (stop_answer n p) ≡ number (stop_answer n q)
 unfolding stop_answer number
-stop-same-number n p q = by (eqb n 7) (eqb n 8) (eqb n 20)
+stop_same_number n p q = by (eqb n 7) (eqb n 8) (eqb n 20)
   where
     by : (a b c : Bool) → number (cond a (Names p) (cond b (Document p) (cond c (RowArea p) (TextArea p)))) ≡ number (cond a (Names q) (cond b (Document q) (cond c (RowArea q) (TextArea q))))
     by true b c = refl
@@ -144,26 +144,26 @@ module _ {k : Print} (r : Run k) (returned : Returned r) (rooted : Rooted r) whe
   walk_is e = rooted_is ∙ ap (λ (b : Bool). cond b (print_doc (defined r) r.width r.lent) (untouched Size r.lent)) e
 
   module _ (ok : sizes_ok r.indent r.width ≡ true) (rows text : ℕ) (went : walked r ≡ going rows text) where
-    listed-is : outcome ≡ document_listed rows text r.width d r.lent
+    listed_is : outcome ≡ document_listed rows text r.width d r.lent
     unfolding after_walk
-    listed-is = walk_is ok ∙ ap (λ (p : Progress). after_walk p d r.width r.lent) went
+    listed_is = walk_is ok ∙ ap (λ (p : Progress). after_walk p d r.width r.lent) went
 
     stands : Stands r
     unfolding document_listed layout.listed
     stands =
-        let e = ap (λ (o : Outcome). o.areas) listed-is in
+        let e = ap (λ (o : Outcome). o.areas) listed_is in
         record { rows = ap (λ (a : Areas). a.rows) e; text = ap (λ (a : Areas). a.text) e; listing = ap (λ (a : Areas). a.listing) e }
 
-    pub answer-is : r.answer ≡ cond (ltb (length r.lent.listing) (length (bytes_of (laid r)))) Listing (Done (counts_of rows text (laid r)))
+    pub answer_is : r.answer ≡ cond (ltb (length r.lent.listing) (length (bytes_of (laid r)))) Listing (Done (counts_of rows text (laid r)))
     unfolding document_listed layout.listed
-    answer-is =
-        ap (λ (o : Outcome). o.answer) listed-is
+    answer_is =
+        ap (λ (o : Outcome). o.answer) listed_is
         ∙ listed_answer (ltb (length r.lent.listing) (length (bytes_of (laid r)))) (counts_of rows text (laid r))
 
     emitted : Emitted (length r.lent.rows) (length r.lent.text) d rows text (emit (defined r) (sink.cleared (length r.lent.rows) (length r.lent.text)))
     emitted =
         emit_of_going_walk (length r.lent.rows) (length r.lent.text) (defined r)
-        (root_fine k r.indent (pool_of r.source) r.root (small-indent r.indent r.width ok)) rows text went
+        (root_fine k r.indent (pool_of r.source) r.root (small_indent r.indent r.width ok)) rows text went
 
     -- the document read back from the areas
     reads_back : doc_of r.left.rows rows r.left.text ≡ d
@@ -181,8 +181,8 @@ module _ {k : Print} (r : Run k) (returned : Returned r) (rooted : Rooted r) whe
         reads_back
         (record { rows = emitted.rows; text = emitted.text; length = refl; lines = refl; longest = refl })
 
-    after-going : AsDefined r
-    after-going = by (ltb (length r.lent.listing) (length (bytes_of (laid r)))) refl answer-is
+    after_going : AsDefined r
+    after_going = by (ltb (length r.lent.listing) (length (bytes_of (laid r)))) refl answer_is
       where
         by : (b : Bool) → ltb (length r.lent.listing) (length (bytes_of (laid r))) ≡ b
             → r.answer ≡ cond b Listing (Done (counts_of rows text (laid r))) → AsDefined r
@@ -201,7 +201,7 @@ module _ {k : Print} (r : Run k) (returned : Returned r) (rooted : Rooted r) whe
   bad_size e = let o = size_is e in sizes e (ap (λ (x : Outcome). x.answer) o) (ap (λ (x : Outcome). x.areas) o)
 
   after-walk : sizes_ok r.indent r.width ≡ true → (p : Progress) → walked r ≡ p → AsDefined r
-  after-walk ok (going rows text) e = after-going ok rows text e
+  after-walk ok (going rows text) e = after_going ok rows text e
   after-walk ok (stopped n at) e = after_stop ok n at e
 
   as_defined_run : AsDefined r
@@ -213,14 +213,14 @@ module _ {k : Print} (r : Run k) (returned : Returned r) (rooted : Rooted r) whe
 
 -- ---- a run that succeeds
 
-refused-not-done : (x : Answer) (n : ℕ) → number x ≡ suc n → number x ≡ 0 → ⊥
-refused-not-done x n h z = omega arith
+refused_not_done : (x : Answer) (n : ℕ) → number x ≡ suc n → number x ≡ 0 → ⊥
+refused_not_done x n h z = omega arith
 
 -- what `lists` says, of the counts that the run's answer has
 record Listed {k : Print} (r : Run k) (s : Succeeded r) : Type 0 where
   stands : Stands r
-  listing-is : listing r s ≡ bytes_of (laid r)
-  document-is : document r s ≡ unmarked (defined r)
+  listing_is : listing r s ≡ bytes_of (laid r)
+  document_is : document r s ≡ unmarked (defined r)
   counts_are : SameCounts s.counts (reported r)
 
 module _ {k : Print} (r : Run k) (returned : Returned r) (unrefused : number r.answer ≡ 0) where
@@ -233,12 +233,12 @@ module _ {k : Print} (r : Run k) (returned : Returned r) (unrefused : number r.a
   -- of the four ends that a run has, three are refusals
   only_lists : {A : Type 0} → AsDefined r → ((s : Succeeded r) → Listed r s → A) → A
   unfolding number
-  only_lists (sizes e a same) then = absurd (refused-not-done r.answer 5 (ap number a) unrefused)
+  only_lists (sizes e a same) then = absurd (refused_not_done r.answer 5 (ap number a) unrefused)
   only_lists (stops n at ok e a x y z) then =
-      absurd (let g = stop-number n at in let h : number (stop_answer n at) ≡ 0 = sym (ap number a) ∙ unrefused in omega arith)
-  only_lists (short rows text ok e l a st) then = absurd (refused-not-done r.answer 21 (ap number a) unrefused)
+      absurd (let g = stop_number n at in let h : number (stop_answer n at) ≡ 0 = sym (ap number a) ∙ unrefused in omega arith)
+  only_lists (short rows text ok e l a st) then = absurd (refused_not_done r.answer 21 (ap number a) unrefused)
   only_lists (lists s ok e enough st l doc counts) then =
-      then s (record { stands = st; listing-is = l; document-is = doc; counts_are = counts })
+      then s (record { stands = st; listing_is = l; document_is = doc; counts_are = counts })
 
   unrefused_succeeds : Succeeded r
   unrefused_succeeds = only_lists (as_defined_run r returned unrefused_rooted) (λ s l. s)
@@ -257,13 +257,13 @@ module _ {k : Print} (r : Run k) (returned : Returned r) (s : Succeeded r) where
     where
       subst_listed : (t : Succeeded r) → t.counts ≡ s.counts → Listed r t → Listed r s
       subst_listed t c l =
-          let listing-is = l.listing-is in
-          let document-is = l.document-is in
+          let listing_is = l.listing_is in
+          let document_is = l.document_is in
           let counts_are = l.counts_are in
           record {
             stands = l.stands;
-            listing-is = rw c at listing-is;
-            document-is = rw c at document-is;
+            listing_is = rw c at listing_is;
+            document_is = rw c at document_is;
             counts_are = rw c at counts_are;
           }
 
@@ -273,10 +273,10 @@ module _ {k : Print} (r : Run k) (returned : Returned r) (s : Succeeded r) where
   listed_in : (d : Doc) → document r s ≡ d → listing r s ≡ bytes_of (pieces r.width d)
   listed_in d e =
       let l = success-listed r returned s in
-      l.listing-is ∙ ap (λ (x : Doc). bytes_of (pieces r.width x)) (sym l.document-is ∙ e)
+      l.listing_is ∙ ap (λ (x : Doc). bytes_of (pieces r.width x)) (sym l.document_is ∙ e)
 
   put_back_in : (d : Doc) → document r s ≡ d → PutBack r s d
-  put_back_in d e = record { listing-is = listed_in d e; restores = blanks_put_back r.width d }
+  put_back_in d e = record { listing_is = listed_in d e; restores = blanks_put_back r.width d }
 
   -- the layout's pieces, as they are met
   pieces-met : pieces_of (met_in r s) ≡ pieces r.width (document r s)
@@ -287,7 +287,7 @@ module _ {k : Print} (r : Run k) (returned : Returned r) (s : Succeeded r) where
   unfolding filled
   rows_left =
       let l = success-listed r returned s in
-      let e = sym l.document-is in (
+      let e = sym l.document_is in (
         l.stands.rows ∙ ap (λ (d : Doc). filled r.lent.rows (stored 0 d)) e,
         l.counts_are.rows ∙ ap row_count e,
       )
@@ -297,7 +297,7 @@ module _ {k : Print} (r : Run k) (returned : Returned r) (s : Succeeded r) where
       let left = rows_left in
       record {
         pieces_are = pieces-met;
-        listing-is = listed_in (document r s) refl ∙ ap bytes_of (sym pieces-met);
+        listing_is = listed_in (document r s) refl ∙ ap bytes_of (sym pieces-met);
         exactly =
             places_of_rows r.width (document r s) (replicate (length r.lent.rows - length (stored 0 (document r s))) 0)
             ∙ ap₂ (break_places (failed (met_in r s))) (sym left.0) (sym left.1);
@@ -306,8 +306,8 @@ module _ {k : Print} (r : Run k) (returned : Returned r) (s : Succeeded r) where
   holds : HoldsWidth r s
   holds =
       record {
-        listing-is = listed_in (document r s) refl ∙ ap bytes_of (sym pieces-met) ∙ sym (rows-joined (pieces_of (met_in r s)));
-        within = subst (λ (ps : List Piece). Within r.width (rows_in ps)) (sym pieces-met) (held-rows-within-width r.width (document r s));
+        listing_is = listed_in (document r s) refl ∙ ap bytes_of (sym pieces-met) ∙ sym (rows_joined (pieces_of (met_in r s)));
+        within = subst (λ (ps : List Piece). Within r.width (rows_in ps)) (sym pieces-met) (held_rows_within_width r.width (document r s));
       }
 
 -- ---- two runs over equal trees
@@ -328,8 +328,8 @@ module _ {k : Print} (a b : Run k) (returned : Returned a) (returned' : Returned
       subst (λ (i : ℕ). Like (defined a) (root_doc k i (pool_of b.source) b.root)) taken.indent
       (roots_like k a.indent (pool_of a.source) a.root (pool_of b.source) b.root taken.tree)
 
-  same-doc : unmarked (defined a) ≡ unmarked (defined b)
-  same-doc = plain_like (defined a) (defined b) docs_like
+  same_doc : unmarked (defined a) ≡ unmarked (defined b)
+  same_doc = plain_like (defined a) (defined b) docs_like
 
   walks : Near (walked a) (walked b)
   walks =
@@ -341,30 +341,30 @@ module _ {k : Print} (a b : Run k) (returned : Returned a) (returned' : Returned
   unfolding filled
   filled-same x y l e = ap (λ (n : ℕ). l ++ replicate (n - length l) 0) e
 
-  same-document-runs : (s : Succeeded a) (t : Succeeded b) → SameDocument a b s t
-  same-document-runs s t =
+  same_document_runs : (s : Succeeded a) (t : Succeeded b) → SameDocument a b s t
+  same_document_runs s t =
       let x = success-listed a returned s in
       let y = success-listed b returned' t in
       record {
-        row_count = x.counts_are.rows ∙ ap row_count same-doc ∙ sym y.counts_are.rows;
-        byte-count = x.counts_are.text ∙ ap (λ (d : Doc). length (text_bytes d)) same-doc ∙ sym y.counts_are.text;
+        row_count = x.counts_are.rows ∙ ap row_count same_doc ∙ sym y.counts_are.rows;
+        byte_count = x.counts_are.text ∙ ap (λ (d : Doc). length (text_bytes d)) same_doc ∙ sym y.counts_are.text;
         rows =
-            x.stands.rows ∙ ap (λ (d : Doc). filled a.lent.rows (stored 0 d)) same-doc
+            x.stands.rows ∙ ap (λ (d : Doc). filled a.lent.rows (stored 0 d)) same_doc
             ∙ filled-same a.lent.rows b.lent.rows (stored 0 (unmarked (defined b))) taken.rows ∙ sym y.stands.rows;
         bytes =
-            x.stands.text ∙ ap (λ (d : Doc). filled a.lent.text (text_bytes d)) same-doc
+            x.stands.text ∙ ap (λ (d : Doc). filled a.lent.text (text_bytes d)) same_doc
             ∙ filled-same a.lent.text b.lent.text (text_bytes (unmarked (defined b))) taken.text ∙ sym y.stands.text;
-        shared = x.document-is ∙ same-doc ∙ sym y.document-is;
+        shared = x.document_is ∙ same_doc ∙ sym y.document_is;
       }
 
   -- ---- at one width
 
   module _ (width : a.width ≡ b.width) where
-    same-sizes : sizes_ok a.indent a.width ≡ sizes_ok b.indent b.width
-    same-sizes = ap₂ sizes_ok taken.indent width
+    same_sizes : sizes_ok a.indent a.width ≡ sizes_ok b.indent b.width
+    same_sizes = ap₂ sizes_ok taken.indent width
 
     same-laid : laid a ≡ laid b
-    same-laid = ap₂ pieces width same-doc
+    same-laid = ap₂ pieces width same_doc
 
     refused_alike : (x y : Answer) → a.answer ≡ x → b.answer ≡ y → 1 ≤ number x → number x ≡ number y → ((number x ≡ 7 → ⊥) → place x ≡ place y) → EndAlike a b
     refused_alike x y e f h i j =
@@ -374,7 +374,7 @@ module _ {k : Print} (a b : Run k) (returned : Returned a) (returned' : Returned
     stopped_alike : (n p m q : ℕ) → a.answer ≡ stop_answer n p → b.answer ≡ stop_answer m q → n ≡ m → ((n ≡ 7 → ⊥) → p ≡ q) → EndAlike a b
     stopped_alike n p m q e f h i =
         let g : b.answer ≡ stop_answer n q = f ∙ ap (λ (x : ℕ). stop_answer x q) (sym h) in
-        refused_alike (stop_answer n p) (stop_answer n q) e g (stop-number n p) (stop-same-number n p q)
+        refused_alike (stop_answer n p) (stop_answer n q) e g (stop_number n p) (stop_same_number n p q)
         (λ other. ap (λ (x : ℕ). place (stop_answer n x)) (i (λ z. other (stop_seven n p z))))
 
     near_of : (p q : Progress) → walked a ≡ p → walked b ≡ q → Near p q
@@ -384,7 +384,7 @@ module _ {k : Print} (a b : Run k) (returned : Returned a) (returned' : Returned
     fit_alike = ap (λ (ps : List Piece). length (bytes_of ps)) same-laid
 
     same-reported : reported a ≡ reported b
-    same-reported = ap₂ (λ (d : Doc) (ps : List Piece). counts_of (row_count d) (length (text_bytes d)) ps) same-doc same-laid
+    same-reported = ap₂ (λ (d : Doc) (ps : List Piece). counts_of (row_count d) (length (text_bytes d)) ps) same_doc same-laid
 
     listed_alike : (s : Succeeded a) (t : Succeeded b) → listing a s ≡ bytes_of (laid a) → listing b t ≡ bytes_of (laid b)
         → SameCounts s.counts (reported a) → SameCounts t.counts (reported b) → EndAlike a b
@@ -394,10 +394,10 @@ module _ {k : Print} (a b : Run k) (returned : Returned a) (returned' : Returned
         (counts-through c same-reported c')
 
     other_size : {A : Type 0} → sizes_ok a.indent a.width ≡ true → sizes_ok b.indent b.width ≡ false → A
-    other_size e f = true-false (sym e ∙ same-sizes ∙ f)
+    other_size e f = true-false (sym e ∙ same_sizes ∙ f)
 
     size_other : {A : Type 0} → sizes_ok a.indent a.width ≡ false → sizes_ok b.indent b.width ≡ true → A
-    size_other e f = true-false (sym f ∙ sym same-sizes ∙ e)
+    size_other e f = true-false (sym f ∙ sym same_sizes ∙ e)
 
     both_alike : AsDefined a → AsDefined b → EndAlike a b
     unfolding number place
@@ -426,27 +426,27 @@ module _ {k : Print} (a b : Run k) (returned : Returned a) (returned' : Returned
 
 -- ---- the whole
 
-one-run : {k : Print} (r : Run k) → Returned r → OneRun r
-one-run r returned =
+one_run : {k : Print} (r : Run k) → Returned r → OneRun r
+one_run r returned =
     record {
       as_defined = λ rooted. as_defined_run r returned rooted;
       succeeds = λ unrefused. unrefused_succeeds r returned unrefused;
       starts_rows = λ s. starts r returned s;
-      holds-width = λ s. holds r returned s;
+      holds_width = λ s. holds r returned s;
     }
 
 two_runs : {k : Print} (a b : Run k) → Returned a → Returned b → TwoRuns a b
 two_runs a b returned returned' =
     record {
       end_alike = λ taken width. alike_runs a b returned returned' taken width;
-      same-document = λ taken s t. same-document-runs a b returned returned' taken s t;
+      same_document = λ taken s t. same_document_runs a b returned returned' taken s t;
       put_back = λ taken s t. (
         put_back_in a returned s (document a s) refl,
-        put_back_in b returned' t (document a s) (sym (same-document-runs a b returned returned' taken s t).shared),
+        put_back_in b returned' t (document a s) (sym (same_document_runs a b returned returned' taken s t).shared),
       );
-      first = one-run a returned;
-      second = one-run b returned';
+      first = one_run a returned;
+      second = one_run b returned';
     }
 
 pub third_property : (k : Print) → ThirdProperty k
-third_property k = record { one = λ r returned. one-run r returned; two = λ a b returned returned'. two_runs a b returned returned' }
+third_property k = record { one = λ r returned. one_run r returned; two = λ a b returned returned'. two_runs a b returned returned' }

@@ -42,13 +42,13 @@ second = run_of expression (record { bytes = []; words = others }) 2 2 6 lent
 abbrev pub wide : Run expression
 wide = run_of expression (record { bytes = []; words = others }) 2 2 80 lent
 
-pub first-succeeds : Succeeded first
+pub first_succeeds : Succeeded first
 unfolding computing call
-first-succeeds = record { counts = record { rows = 13; text = 6; length = 7; lines = 1; longest = 7; tests = 1 }; answered = refl }
+first_succeeds = record { counts = record { rows = 13; text = 6; length = 7; lines = 1; longest = 7; tests = 1 }; answered = refl }
 
-pub second-succeeds : Succeeded second
+pub second_succeeds : Succeeded second
 unfolding computing call
-second-succeeds = record { counts = record { rows = 13; text = 6; length = 7; lines = 2; longest = 5; tests = 3 }; answered = refl }
+second_succeeds = record { counts = record { rows = 13; text = 6; length = 7; lines = 2; longest = 5; tests = 3 }; answered = refl }
 
 taken : Premises first second
 unfolding computing SameTree
@@ -91,38 +91,38 @@ pub succeeds : Succeeded first × Succeeded second
 unfolding computing call
 succeeds = (runs.first.succeeds refl, runs.second.succeeds refl)
 
-pub same-document : SameDocument first second first-succeeds second-succeeds
-same-document = runs.same-document taken first-succeeds second-succeeds
+pub same_document : SameDocument first second first_succeeds second_succeeds
+same_document = runs.same_document taken first_succeeds second_succeeds
 
-pub put_back : PutBack first first-succeeds (document first first-succeeds) × PutBack second second-succeeds (document first first-succeeds)
-put_back = runs.put_back taken first-succeeds second-succeeds
+pub put_back : PutBack first first_succeeds (document first first_succeeds) × PutBack second second_succeeds (document first first_succeeds)
+put_back = runs.put_back taken first_succeeds second_succeeds
 
-pub starts_rows : StartsRows first first-succeeds × StartsRows second second-succeeds
-starts_rows = (runs.first.starts_rows first-succeeds, runs.second.starts_rows second-succeeds)
+pub starts_rows : StartsRows first first_succeeds × StartsRows second second_succeeds
+starts_rows = (runs.first.starts_rows first_succeeds, runs.second.starts_rows second_succeeds)
 
-pub holds-width : HoldsWidth first first-succeeds × HoldsWidth second second-succeeds
-holds-width = (runs.first.holds-width first-succeeds, runs.second.holds-width second-succeeds)
+pub holds_width : HoldsWidth first first_succeeds × HoldsWidth second second_succeeds
+holds_width = (runs.first.holds_width first_succeeds, runs.second.holds_width second_succeeds)
 
 -- the break place and the rows that they speak of
-pub first_places : places_in (met_in first first-succeeds) ≡ record { row = 7; piece = blankᵖ 1 } ∷ []
-unfolding computing call met_from places_in first-succeeds
+pub first_places : places_in (met_in first first_succeeds) ≡ record { row = 7; piece = blankᵖ 1 } ∷ []
+unfolding computing call met_from places_in first_succeeds
 first_places = refl
 
-pub second_places : places_in (met_in second second-succeeds) ≡ record { row = 7; piece = newlineᵖ 1 0 } ∷ []
-unfolding computing call met_from places_in second-succeeds
+pub second_places : places_in (met_in second second_succeeds) ≡ record { row = 7; piece = newlineᵖ 1 0 } ∷ []
+unfolding computing call met_from places_in second_succeeds
 second_places = refl
 
-pub first-groups : groups_outside (failed (met_in first first-succeeds)) first.left.rows 13 ≡ 1
-unfolding computing call met_from failed all_failed rows_on group_rows first-succeeds
-first-groups = refl
+pub first_groups : groups_outside (failed (met_in first first_succeeds)) first.left.rows 13 ≡ 1
+unfolding computing call met_from failed all_failed rows_on group_rows first_succeeds
+first_groups = refl
 
-pub second-groups : groups_outside (failed (met_in second second-succeeds)) second.left.rows 13 ≡ 3
-unfolding computing call met_from failed all_failed rows_on group_rows second-succeeds
-second-groups = refl
+pub second_groups : groups_outside (failed (met_in second second_succeeds)) second.left.rows 13 ≡ 3
+unfolding computing call met_from failed all_failed rows_on group_rows second_succeeds
+second_groups = refl
 
-pub second-rows : rows_in (pieces_of (met_in second second-succeeds)) ≡ record { bytes = 54 ∷ 32 ∷ 226 ∷ 134 ∷ 146 ∷ []; held = false } ∷ record { bytes = 53 ∷ []; held = false } ∷ []
-unfolding computing call met_from pieces_of rows_from second-succeeds
-second-rows = refl
+pub second_rows : rows_in (pieces_of (met_in second second_succeeds)) ≡ record { bytes = 54 ∷ 32 ∷ 226 ∷ 134 ∷ 146 ∷ []; held = false } ∷ record { bytes = 53 ∷ []; held = false } ∷ []
+unfolding computing call met_from pieces_of rows_from second_succeeds
+second_rows = refl
 
 -- ---- two runs of a declaration that are refused 7
 

@@ -30,7 +30,7 @@ NamesFit (named place count ∷ es) = (count ≤ 1024) × NamesFit es
 
 -- so many rows and bytes are within the document's limits, and within areas of R words and T bytes
 pub record Fits (R T rows bytes : ℕ) : Type 0 where
-  pub few-rows : rows ≤ 16384
+  pub few_rows : rows ≤ 16384
   pub few_bytes : bytes ≤ 65536
   pub row_area : rows * 7 ≤ R
   pub text_area : bytes ≤ T
@@ -72,7 +72,7 @@ Reports r n at = (number r.answer ≡ n) × (place r.answer ≡ at)
 pub data Ends {k : Print} (r : Run k) : Type 0 where
   success : DocumentFits r → length (bytes_of (laid r)) ≤ length r.lent.listing → Succeeded r → Ends r
   -- 22
-  listing-short : DocumentFits r → length r.lent.listing < length (bytes_of (laid r)) → Reports r 22 0 → Ends r
+  listing_short : DocumentFits r → length r.lent.listing < length (bytes_of (laid r)) → Reports r 22 0 → Ends r
   -- 7, 8, 20, 21
   stop : (n at : ℕ) → FirstRefused (length r.lent.rows) (length r.lent.text) (events (defined r)) n at → Reports r n at → Ends r
 

@@ -164,14 +164,14 @@ pub data AsDefined {k : Print} (r : Run k) : Type 0 where
 -- "when both runs succeed they leave the same document, row for row and byte for byte, so they share all texts and break places in order"
 pub record SameDocument {k : Print} (a b : Run k) (s : Succeeded a) (t : Succeeded b) : Type 0 where
   pub row_count : s.counts.rows ≡ t.counts.rows
-  pub byte-count : s.counts.text ≡ t.counts.text
+  pub byte_count : s.counts.text ≡ t.counts.text
   pub rows : a.left.rows ≡ b.left.rows
   pub bytes : a.left.text ≡ b.left.text
   pub shared : document a s ≡ document b t
 
 -- "Put each broken place's newline and indentation back to its blank, and both listings are that document's texts and blanks in order."
 pub record PutBack {k : Print} (r : Run k) (s : Succeeded r) (d : Doc) : Type 0 where
-  pub listing-is : listing r s ≡ bytes_of (pieces r.width d)
+  pub listing_is : listing r s ≡ bytes_of (pieces r.width d)
   pub restores : restored (pieces r.width d) ≡ in_order d
 
 -- what layout meets in the document that a run which succeeds leaves, row by row
@@ -181,12 +181,12 @@ met_in r s = met r.width (document r s)
 -- "a break place starts a row exactly when every group around it failed 01's fit test": of the rows that the run leaves
 pub record StartsRows {k : Print} (r : Run k) (s : Succeeded r) : Type 0 where
   pub pieces_are : pieces_of (met_in r s) ≡ pieces r.width (document r s)
-  pub listing-is : listing r s ≡ bytes_of (pieces_of (met_in r s))
+  pub listing_is : listing r s ≡ bytes_of (pieces_of (met_in r s))
   pub exactly : places_in (met_in r s) ≡ break_places (failed (met_in r s)) r.left.rows s.counts.rows
 
 -- "every row holding an unbroken break place is at most the width in bytes"
 pub record HoldsWidth {k : Print} (r : Run k) (s : Succeeded r) : Type 0 where
-  pub listing-is : listing r s ≡ joined (rows_in (pieces_of (met_in r s)))
+  pub listing_is : listing r s ≡ joined (rows_in (pieces_of (met_in r s)))
   pub within : Within r.width (rows_in (pieces_of (met_in r s)))
 
 -- ---- the whole
@@ -199,14 +199,14 @@ pub record OneRun {k : Print} (r : Run k) : Type 0 where
   pub succeeds : number r.answer ≡ 0 → Succeeded r
   -- "In every run that succeeds"
   pub starts_rows : (s : Succeeded r) → StartsRows r s
-  pub holds-width : (s : Succeeded r) → HoldsWidth r s
+  pub holds_width : (s : Succeeded r) → HoldsWidth r s
 
 -- and of two
 pub record TwoRuns {k : Print} (a b : Run k) : Type 0 where
   -- "Whatever the width, the two runs at that width end alike"
   pub end_alike : Premises a b → a.width ≡ b.width → EndAlike a b
   -- "Whatever the two widths"
-  pub same-document : Premises a b → (s : Succeeded a) (t : Succeeded b) → SameDocument a b s t
+  pub same_document : Premises a b → (s : Succeeded a) (t : Succeeded b) → SameDocument a b s t
   pub put_back : Premises a b → (s : Succeeded a) (t : Succeeded b) → PutBack a s (document a s) × PutBack b t (document a s)
   pub first : OneRun a
   pub second : OneRun b

@@ -7,7 +7,7 @@ use mathlib.Core.Path.{◌≡◌, refl, sym, ap, ◌∙◌}
 use lib.ListN.{length, get_or, drop}
 use lib.Dec.{ltb, leb, eqb}
 use borrow.Author.Tests.{eq-eqb, ne_eqb, leb-true, ltb-true, le-leb, lt-ltb}
-use Rattle.basics.proofs.Booleans.{and-true, and-false, and_assoc, or_assoc, or-first, or-second, or-none}
+use Rattle.basics.proofs.Booleans.{and-true, and-false, and_assoc, or_assoc, or_first, or_second, or_none}
 use Rattle.utf8.specs.Letterlike.{not_greek, is_start, is_rest, all_rest, letterlike, same_bytes, plain}
 use Rattle.utf8.specs.Utf8.{within, points, points_from}
 
@@ -50,16 +50,16 @@ pub fit_start : (s : List ℕ) → true && fit true (points_from 0 0 (drop 0 s))
 unfolding fit points
 fit_start s = refl
 
-pub plain-is : (s : List ℕ) (a ok r : Bool) → a ≡ same_bytes s (95 ∷ 64 ∷ []) → ok ≡ letterlike (points s) → r ≡ a || ok → r ≡ plain s
+pub plain_is : (s : List ℕ) (a ok r : Bool) → a ≡ same_bytes s (95 ∷ 64 ∷ []) → ok ≡ letterlike (points s) → r ≡ a || ok → r ≡ plain s
 unfolding plain
-plain-is s a ok r p q e = rw (e, p, q)
+plain_is s a ok r p q e = rw (e, p, q)
 
-pub two-not : (s : List ℕ) (a b : ℕ) → (length s ≡ 2 → ⊥) → same_bytes s (a ∷ b ∷ []) ≡ false
+pub two_not : (s : List ℕ) (a b : ℕ) → (length s ≡ 2 → ⊥) → same_bytes s (a ∷ b ∷ []) ≡ false
 unfolding same_bytes
-two-not [] a b h = refl
-two-not (x ∷ []) a b h = and-false (eqb x a)
-two-not (x ∷ y ∷ []) a b h = absurd (h refl)
-two-not (x ∷ y ∷ z ∷ s) a b h = rw (and-false (eqb y b), and-false (eqb x a))
+two_not [] a b h = refl
+two_not (x ∷ []) a b h = and-false (eqb x a)
+two_not (x ∷ y ∷ []) a b h = absurd (h refl)
+two_not (x ∷ y ∷ z ∷ s) a b h = rw (and-false (eqb y b), and-false (eqb x a))
 
 pub two_is : (s : List ℕ) (a b : ℕ) → length s ≡ 2 → eqb (get_or s 0 0) a && eqb (get_or s 1 0) b ≡ same_bytes s (a ∷ b ∷ [])
 unfolding same_bytes
@@ -68,16 +68,16 @@ two_is (x ∷ []) a b h = absurd (omega arith)
 two_is (x ∷ y ∷ []) a b h = ap (λ (t : Bool). eqb x a && t) (sym (and-true (eqb y b)))
 two_is (x ∷ y ∷ z ∷ s) a b h = absurd (omega arith)
 
-within-no : (lo hi c : ℕ) → (lo ≤ c → c < hi → ⊥) → within lo hi c ≡ false
-within-no lo hi c f = off (leb lo c) (ltb c hi) refl refl
+within_no : (lo hi c : ℕ) → (lo ≤ c → c < hi → ⊥) → within lo hi c ≡ false
+within_no lo hi c f = off (leb lo c) (ltb c hi) refl refl
   where
     off : (a b : Bool) → leb lo c ≡ a → ltb c hi ≡ b → a && b ≡ false
     off true true p q = absurd (f (leb-true lo c p) (ltb-true c hi q))
     off true false p q = refl
     off false b p q = refl
 
-within-yes : (lo hi c : ℕ) → lo ≤ c → c < hi → within lo hi c ≡ true
-within-yes lo hi c p q = rw (le-leb lo c p, lt-ltb c hi q)
+within_yes : (lo hi c : ℕ) → lo ≤ c → c < hi → within lo hi c ≡ true
+within_yes lo hi c p q = rw (le-leb lo c p, lt-ltb c hi q)
 
 -- the decision over the ASCII characters of a start, way by way
 module _ (c : ℕ) where
@@ -85,32 +85,32 @@ module _ (c : ℕ) where
   ascii_start = within 65 91 c || (within 97 123 c || eqb c 95)
 
   pub start_underscore : c ≡ 95 → true ≡ ascii_start
-  start_underscore e = or-second (within 65 91 c) _ (sym (or-second (within 97 123 c) (eqb c 95) (eq-eqb c 95 e)))
+  start_underscore e = or_second (within 65 91 c) _ (sym (or_second (within 97 123 c) (eqb c 95) (eq-eqb c 95 e)))
 
   pub start_upper : 65 ≤ c → c ≤ 90 → true ≡ ascii_start
-  start_upper p q = or-first (within 65 91 c) _ (within-yes 65 91 c p (omega arith))
+  start_upper p q = or_first (within 65 91 c) _ (within_yes 65 91 c p (omega arith))
 
   pub start_lower : 97 ≤ c → c ≤ 122 → true ≡ ascii_start
-  start_lower p q = or-second (within 65 91 c) _ (sym (or-first (within 97 123 c) (eqb c 95) (within-yes 97 123 c p (omega arith))))
+  start_lower p q = or_second (within 65 91 c) _ (sym (or_first (within 97 123 c) (eqb c 95) (within_yes 97 123 c p (omega arith))))
 
   pub start_none : (c ≡ 95 → ⊥) → (65 ≤ c → c ≤ 90 → ⊥) → (97 ≤ c → c ≤ 122 → ⊥) → false ≡ ascii_start
   start_none e u l =
-      or-none (within 65 91 c) _ (within-no 65 91 c (λ p q. u p (omega arith)))
-      (sym (or-none (within 97 123 c) (eqb c 95) (within-no 97 123 c (λ p q. l p (omega arith))) (ne_eqb c 95 e)))
+      or_none (within 65 91 c) _ (within_no 65 91 c (λ p q. u p (omega arith)))
+      (sym (or_none (within 97 123 c) (eqb c 95) (within_no 97 123 c (λ p q. l p (omega arith))) (ne_eqb c 95 e)))
 
   -- and of a rest
   abbrev pub ascii_rest : Bool
   ascii_rest = within 48 58 c || (eqb c 33 || (eqb c 63 || eqb c 39))
 
   pub rest_key : eqb c 33 || (eqb c 63 || eqb c 39) ≡ true → true ≡ ascii_rest
-  rest_key e = or-second (within 48 58 c) _ e
+  rest_key e = or_second (within 48 58 c) _ e
 
   pub rest_digit : 48 ≤ c → c ≤ 57 → true ≡ ascii_rest
-  rest_digit p q = or-first (within 48 58 c) _ (within-yes 48 58 c p (omega arith))
+  rest_digit p q = or_first (within 48 58 c) _ (within_yes 48 58 c p (omega arith))
 
-  pub rest-none : (c ≡ 33 → ⊥) → (c ≡ 63 → ⊥) → (c ≡ 39 → ⊥) → (48 ≤ c → c ≤ 57 → ⊥) → false ≡ ascii_rest
-  rest-none a b d u =
-      or-none (within 48 58 c) _ (within-no 48 58 c (λ p q. u p (omega arith)))
+  pub rest_none : (c ≡ 33 → ⊥) → (c ≡ 63 → ⊥) → (c ≡ 39 → ⊥) → (48 ≤ c → c ≤ 57 → ⊥) → false ≡ ascii_rest
+  rest_none a b d u =
+      or_none (within 48 58 c) _ (within_no 48 58 c (λ p q. u p (omega arith)))
       (rw (ne_eqb c 33 a, ne_eqb c 63 b, ne_eqb c 39 d))
 
   pub start_is : (a g x y z r : Bool) → a ≡ ascii_start
@@ -120,10 +120,10 @@ module _ (c : ℕ) where
   start_is a g x y z r ea eg ex ey ez er =
       rw (er, ez, ea, eg, ex, ey) (or_assoc (within 65 91 c) _ _ ∙ ap (λ (t : Bool). within 65 91 c || t) (or_assoc (within 97 123 c) _ _))
 
-  pub rest-is : (s a x y z u v r : Bool) → s ≡ is_start c → a ≡ ascii_rest → x ≡ within 0x2080 0x2089 c → y ≡ within 0x2090 0x209c c
+  pub rest_is : (s a x y z u v r : Bool) → s ≡ is_start c → a ≡ ascii_rest → x ≡ within 0x2080 0x2089 c → y ≡ within 0x2090 0x209c c
       → z ≡ within 0x1d62 0x1d6a c → u ≡ x || (y || z) → v ≡ a || u → r ≡ s || v → r ≡ is_rest c
   unfolding is_rest
-  rest-is s a x y z u v r es ea ex ey ez eu ev er =
+  rest_is s a x y z u v r es ea ex ey ez eu ev er =
       rw (er, ev, eu, es, ea, ex, ey, ez)
       (ap (λ (t : Bool). is_start c || t)
       (or_assoc (within 48 58 c) _ _ ∙ ap (λ (t : Bool). within 48 58 c || t) (or_assoc (eqb c 33) _ _

@@ -133,17 +133,17 @@ module _ (s : List ℕ) (i need bits least : ℕ) (b : ℕ) (r : Scan) (h : i < 
   opened = rw (add-one, eb, drop-cons s i 0 h)
 
   -- a byte is taken from what is left
-  pub utf8-next : utf8_from need bits least (drop i s) ≡ r.ok && utf8_from r.need r.bits r.least (drop (i + 1) s)
-  utf8-next = ap (utf8_from need bits least) opened ∙ step.valid (drop (i + 1) s)
+  pub utf8_next : utf8_from need bits least (drop i s) ≡ r.ok && utf8_from r.need r.bits r.least (drop (i + 1) s)
+  utf8_next = ap (utf8_from need bits least) opened ∙ step.valid (drop (i + 1) s)
 
   pub utf8_on : (t : Bool) → r.ok ≡ true → utf8_from need bits least (drop i s) ≡ t → utf8_from r.need r.bits r.least (drop (i + 1) s) ≡ t
-  utf8_on t ok e = sym (utf8-next ∙ ap (λ (k : Bool). k && utf8_from r.need r.bits r.least (drop (i + 1) s)) ok) ∙ e
+  utf8_on t ok e = sym (utf8_next ∙ ap (λ (k : Bool). k && utf8_from r.need r.bits r.least (drop (i + 1) s)) ok) ∙ e
 
   pub utf8_off : (t : Bool) → r.ok ≡ false → utf8_from need bits least (drop i s) ≡ t → false ≡ t
-  utf8_off t ok e = sym (utf8-next ∙ ap (λ (k : Bool). k && utf8_from r.need r.bits r.least (drop (i + 1) s)) ok) ∙ e
+  utf8_off t ok e = sym (utf8_next ∙ ap (λ (k : Bool). k && utf8_from r.need r.bits r.least (drop (i + 1) s)) ok) ∙ e
 
-  pub points-next : points_from need bits (drop i s) ≡ cond r.whole (r.bits ∷ []) [] ++ points_from r.need r.bits (drop (i + 1) s)
-  points-next = ap (points_from need bits) opened ∙ step.point (drop (i + 1) s)
+  pub points_next : points_from need bits (drop i s) ≡ cond r.whole (r.bits ∷ []) [] ++ points_from r.need r.bits (drop (i + 1) s)
+  points_next = ap (points_from need bits) opened ∙ step.point (drop (i + 1) s)
 
 pub none_left : (s : List ℕ) (i : ℕ) → length s ≤ i → drop i s ≡ []
 none_left [] zero h = refl
@@ -151,18 +151,18 @@ none_left [] (suc i) h = refl
 none_left (x ∷ s) zero h = absurd (omega arith)
 none_left (x ∷ s) (suc i) h = none_left s i (omega arith)
 
-utf8-empty : (need bits least : ℕ) → utf8_from need bits least [] ≡ eqb need 0
+utf8_empty : (need bits least : ℕ) → utf8_from need bits least [] ≡ eqb need 0
 unfolding utf8_from
-utf8-empty zero bits least = refl
-utf8-empty (suc need) bits least = sym (ne_eqb (suc need) 0 (λ q. omega arith))
+utf8_empty zero bits least = refl
+utf8_empty (suc need) bits least = sym (ne_eqb (suc need) 0 (λ q. omega arith))
 
 pub utf8_end : (s : List ℕ) (i need bits least : ℕ) (t : Bool) → length s ≤ i → utf8_from need bits least (drop i s) ≡ t → eqb need 0 ≡ t
-utf8_end s i need bits least t h e = sym (ap (utf8_from need bits least) (none_left s i h) ∙ utf8-empty need bits least) ∙ e
+utf8_end s i need bits least t h e = sym (ap (utf8_from need bits least) (none_left s i h) ∙ utf8_empty need bits least) ∙ e
 
 pub utf8-start : (s : List ℕ) → utf8_from 0 0 0 (drop 0 s) ≡ utf8 s
 unfolding utf8
 utf8-start s = refl
 
-pub ready-start : Ready begun
+pub ready_start : Ready begun
 unfolding cap
-ready-start = record { few = omega arith; room = omega arith }
+ready_start = record { few = omega arith; room = omega arith }

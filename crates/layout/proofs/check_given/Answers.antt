@@ -1,5 +1,5 @@
 use mathlib.Core.Path.{sym, ◌∙◌}
-use Rattle.layout.proofs.Answers.{admission-counts, admission-fault, no-fault, admission-width, admission-none}
+use Rattle.layout.proofs.Answers.{admission-counts, admission-fault, no_fault, admission_width, admission_none}
 use Rattle.layout.proofs.check_given.Goals as goal
 
 pub returns-then-not-counts_ok : goal.returns-then-not-counts_ok
@@ -17,12 +17,12 @@ pub returns-then-width-gt65535 : goal.returns-then-width-gt65535
 returns-then-width-gt65535 c =
     let a = c.args in
     let ok = sym c.counts_ok.ensures ∙ c.if-not-counts_ok.false in
-    let good = no-fault a.rows.now a.count a.text.now a.total a.width ok c.find_fault-row.result c.find_fault-row.ensures c.if-row-count.false in
-    admission-width a.rows.now a.count a.text.now a.total a.width ok good c.if-width-gt65535.true
+    let good = no_fault a.rows.now a.count a.text.now a.total a.width ok c.find_fault-row.result c.find_fault-row.ensures c.if-row-count.false in
+    admission_width a.rows.now a.count a.text.now a.total a.width ok good c.if-width-gt65535.true
 
 pub returns : goal.returns
 returns c =
     let a = c.args in
     let ok = sym c.counts_ok.ensures ∙ c.if-not-counts_ok.false in
-    let good = no-fault a.rows.now a.count a.text.now a.total a.width ok c.find_fault-row.result c.find_fault-row.ensures c.if-row-count.false in
-    admission-none a.rows.now a.count a.text.now a.total a.width ok good c.if-width-gt65535.false
+    let good = no_fault a.rows.now a.count a.text.now a.total a.width ok c.find_fault-row.result c.find_fault-row.ensures c.if-row-count.false in
+    admission_none a.rows.now a.count a.text.now a.total a.width ok good c.if-width-gt65535.false

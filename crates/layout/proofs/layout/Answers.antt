@@ -1,6 +1,6 @@
 use mathlib.Core.Path.{◌∙◌}
 use Rattle.layout.specs.Call.{untouched}
-use Rattle.layout.proofs.Answers.{answer-listed, means_of}
+use Rattle.layout.proofs.Answers.{answer_listed, means_of}
 use Rattle.layout.proofs.layout.Goals as goal
 
 pub layout_accepted-requires : goal.layout_accepted-requires
@@ -12,7 +12,7 @@ pub returns-in-Admitted : goal.returns-in-Admitted
 returns-in-Admitted c =
     let a = c.args in
     let admitted = means_of a.rows.now a.count a.text.now a.total a.width c.in-Admitted.is c.check_given.ensures in
-    c.layout_accepted.ensures ∙ answer-listed a.rows.now a.count a.text.now a.total a.width admitted.0.counts admitted.0.faultless a.listing.now
+    c.layout_accepted.ensures ∙ answer_listed a.rows.now a.count a.text.now a.total a.width admitted.0.counts admitted.0.faultless a.listing.now
     admitted.1
 
 pub returns-in-Document : goal.returns-in-Document

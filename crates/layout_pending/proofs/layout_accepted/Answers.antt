@@ -1,10 +1,10 @@
 use mathlib.Core.Path.{ap, ◌∙◌}
 use Prim.Native.Nat.{ℕ}
 use lib.ListN.{replicate}
-use Rattle.document.proofs.Faults.{accepted-counts, accepted-sound}
+use Rattle.document.proofs.Faults.{accepted_counts, accepted_sound}
 use Rattle.layout.specs.Layout.{pieces}
 use Rattle.layout.specs.Call.{doc_of}
-use Rattle.layout.proofs.Answers.{accepted-given, reported-listed}
+use Rattle.layout.proofs.Answers.{accepted_given, reported-listed}
 use Rattle.layout_pending.proofs.layout_accepted.Goals as goal
 
 pub lay_out_pending-last-requires : goal.lay_out_pending-last-requires
@@ -13,9 +13,9 @@ lay_out_pending-last-requires c =
     let pre = c.requires in
     record {
       total = a.total;
-      given = accepted-given a.rows.now a.count a.text.now a.total a.width pre.0 pre.1.0;
-      some = (accepted-counts pre.0).pos;
-      whole = (accepted-sound pre.0).last;
+      given = accepted_given a.rows.now a.count a.text.now a.total a.width pre.0 pre.1.0;
+      some = (accepted_counts pre.0).pos;
+      whole = (accepted_sound pre.0).last;
       room = pre.1.1;
     }
 

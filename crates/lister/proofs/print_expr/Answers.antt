@@ -2,7 +2,7 @@ use mathlib.Core.Path.{◌∙◌}
 use Rattle.pool.specs.Tables.{E}
 use Rattle.lister.specs.Source.{Source}
 use Rattle.lister.specs.Prints.{Areas, print_expr}
-use Rattle.lister.proofs.Beginning.{refused-call, begins-call, begun-call}
+use Rattle.lister.proofs.Beginning.{refused_call, begins_call, begun_call}
 use Rattle.lister.proofs.print_expr.Goals as goal
 
 pub returns-then-not-may_print : goal.returns-then-not-may_print
@@ -11,7 +11,7 @@ returns-then-not-may_print c =
     let a = c.args in
     let source : Source = record { bytes = a.bytes.now; words = a.words.now } in
     let areas : Areas = record { rows = a.rows.now; text = a.text.now; listing = a.listing.now } in
-    refused-call source c.tables_of-t.result a.root (E a.words.now) c.tables_of-t.result.exprs a.indent a.width
+    refused_call source c.tables_of-t.result a.root (E a.words.now) c.tables_of-t.result.exprs a.indent a.width
     c.check-verdict.result c.sizes_ok.result c.may_print.result c.tables_of-t.ensures
     c.tables_of-t.ensures.of_words.exprs c.check-verdict.ensures c.sizes_ok.ensures c.may_print.ensures
     c.if-not-may_print.true _ _ areas c.refusal.ensures
@@ -20,7 +20,7 @@ pub print_checked_expr-requires : goal.print_checked_expr-requires
 print_checked_expr-requires c =
     let a = c.args in
     let source : Source = record { bytes = a.bytes.now; words = a.words.now } in
-    begins-call source c.tables_of-t.result a.root (E a.words.now) c.tables_of-t.result.exprs a.indent a.width
+    begins_call source c.tables_of-t.result a.root (E a.words.now) c.tables_of-t.result.exprs a.indent a.width
     c.check-verdict.result c.sizes_ok.result c.may_print.result c.tables_of-t.ensures
     c.tables_of-t.ensures.of_words.exprs c.check-verdict.ensures c.sizes_ok.ensures c.may_print.ensures
     c.if-not-may_print.false
@@ -31,7 +31,7 @@ returns c =
     let a = c.args in
     let source : Source = record { bytes = a.bytes.now; words = a.words.now } in
     let areas : Areas = record { rows = a.rows.now; text = a.text.now; listing = a.listing.now } in
-    c.print_checked_expr.ensures ∙ begun-call source c.tables_of-t.result a.root (E a.words.now)
+    c.print_checked_expr.ensures ∙ begun_call source c.tables_of-t.result a.root (E a.words.now)
     c.tables_of-t.result.exprs a.indent a.width c.check-verdict.result c.sizes_ok.result c.may_print.result
     c.tables_of-t.ensures c.tables_of-t.ensures.of_words.exprs c.check-verdict.ensures c.sizes_ok.ensures
     c.may_print.ensures c.if-not-may_print.false _ areas

@@ -1,6 +1,6 @@
-use Rattle.lister_c.proofs.Answers.{hand-out-answer}
+use Rattle.lister_c.proofs.Answers.{hand_out_answer}
 use Rattle.lister_c.proofs.tilusorgu_hand_out.Goals as goal
 
 pub returns : goal.returns
 returns c =
-    hand-out-answer c.args.out.now c.kind_span-p.ensures c.put_words.ensures
+    hand_out_answer c.args.out.now c.kind_span-p.ensures c.put_words.ensures

@@ -1,6 +1,6 @@
-use Rattle.lister_c.proofs.Answers.{layout-pending-answer}
+use Rattle.lister_c.proofs.Answers.{layout_pending_answer}
 use Rattle.lister_c.proofs.tilusorgu_layout_pending.Goals as goal
 
 pub returns : goal.returns
 returns c =
-    layout-pending-answer c.args.out.now c.layout_pending.ensures c.of_laid_pending-report.ensures c.fill.ensures
+    layout_pending_answer c.args.out.now c.layout_pending.ensures c.of_laid_pending-report.ensures c.fill.ensures

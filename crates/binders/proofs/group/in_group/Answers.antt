@@ -1,4 +1,4 @@
-use Rattle.binders.proofs.GroupingLaws.{group_unlike, group_like, group-row}
+use Rattle.binders.proofs.GroupingLaws.{group_unlike, group_like, group_row}
 use Rattle.binders.proofs.group.in_group.Goals as goal
 
 pub returns-then-not-alike : goal.returns-then-not-alike
@@ -7,7 +7,7 @@ returns-then-not-alike c =
 
 pub same_lifted-requires : goal.same_lifted-requires
 same_lifted-requires c =
-    (c.requires.0.ready, c.requires.2, group-row _ c.requires.0.ready.sound 0 0 _ c.requires.1 c.requires.3 _ c.binder_type-type_row.ensures.0)
+    (c.requires.0.ready, c.requires.2, group_row _ c.requires.0.ready.sound 0 0 _ c.requires.1 c.requires.3 _ c.binder_type-type_row.ensures.0)
 
 pub returns : goal.returns
 returns c =

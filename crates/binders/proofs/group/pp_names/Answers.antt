@@ -1,5 +1,5 @@
 use native.Mathlib.Omega.{arith}
-use Rattle.binders.proofs.NamingLaws.{some_binder, fewer-left, lower_row, first-name}
+use Rattle.binders.proofs.NamingLaws.{some_binder, fewer_left, lower_row, first_name}
 use Rattle.binders.proofs.group.pp_names.Goals as goal
 
 pub pp_binder_name-s-requires : goal.pp_binder_name-s-requires
@@ -15,7 +15,7 @@ put_next_names-requires c = (
         c.requires.1 _ c.requires.2 c.requires.3) _ c.binder_body-next.ensures.0,
     c.requires.1,
   ),
-  fewer-left _
+  fewer_left _
       c.requires.0.ready.sound _ c.requires.1
       (some_binder _ c.requires.0.ready.sound _ c.requires.1 _ c.requires.2 c.requires.3) _ _ c.requires.3
       c.binder_body-next.ensures.0,
@@ -24,6 +24,6 @@ put_next_names-requires c = (
 pub returns : goal.returns
 returns c =
     rw (c.put_next_names.ensures, c.pp_binder_name-s.ensures)
-    (first-name _ c.requires.0.ready.sound _ c.requires.1
+    (first_name _ c.requires.0.ready.sound _ c.requires.1
     (some_binder _ c.requires.0.ready.sound _ c.requires.1 _ c.requires.2 c.requires.3) _ _ _ c.requires.2
     c.binder_body-next.ensures.0)

@@ -1,11 +1,11 @@
-use Rattle.binders.proofs.LeafLaws.{sort-row, const-row, nat-row, str-row, sort_leaf, const_leaf, nat_leaf, str_leaf, last_kind}
+use Rattle.binders.proofs.LeafLaws.{sort_row, const_row, nat_row, str_row, sort_leaf, const_leaf, nat_leaf, str_leaf, last_kind}
 use mathlib.Core.Path.{◌∙◌}
 use Rattle.binders.proofs.leaves.pp_leaf.Goals as goal
 
 pub pp_sort-requires : goal.pp_sort-requires
 pp_sort-requires c = (
   c.requires.0.ready,
-  sort-row _ c.requires.0.ready.sound _ c.requires.1 _ _ c.expr_kind-kind.ensures.0
+  sort_row _ c.requires.0.ready.sound _ c.requires.1 _ _ c.expr_kind-kind.ensures.0
       c.sort_level-level.ensures.0 c.if-kind-eq-EXPR_SORT.true,
 )
 
@@ -17,7 +17,7 @@ returns-then-kind-eq-EXPR_SORT c =
 pub pp_const-requires : goal.pp_const-requires
 pp_const-requires c = (
   c.requires.0.ready,
-  const-row _ c.requires.0.ready.sound _ c.requires.1 _ _ c.expr_kind-kind.ensures.0
+  const_row _ c.requires.0.ready.sound _ c.requires.1 _ _ c.expr_kind-kind.ensures.0
       c.const_name-name.ensures.0 c.if-kind-eq-EXPR_CONST.true,
 )
 
@@ -29,7 +29,7 @@ returns-then-kind-eq-EXPR_CONST c =
 pub pp_nat-requires : goal.pp_nat-requires
 pp_nat-requires c = (
   c.requires.0.ready,
-  nat-row _ c.requires.0.ready.sound _ c.requires.1 _ _ c.expr_kind-kind.ensures.0
+  nat_row _ c.requires.0.ready.sound _ c.requires.1 _ _ c.expr_kind-kind.ensures.0
       c.literal_string-string.ensures.0 c.if-kind-eq-EXPR_NAT.true,
 )
 
@@ -41,7 +41,7 @@ returns-then-kind-eq-EXPR_NAT c =
 pub pp_string-requires : goal.pp_string-requires
 pp_string-requires c = (
   c.requires.0.ready,
-  str-row _ c.requires.0.ready.sound _ c.requires.1 _ _ c.expr_kind-kind.ensures.0
+  str_row _ c.requires.0.ready.sound _ c.requires.1 _ _ c.expr_kind-kind.ensures.0
       c.literal_string-string.ensures.0
       (last_kind _ c.requires.0.ready.sound _ c.requires.1 _ _ c.expr_kind-kind.ensures.0 c.literal_string-string.ensures.0
       c.requires.2 c.if-kind-eq-EXPR_SORT.false c.if-kind-eq-EXPR_CONST.false c.if-kind-eq-EXPR_NAT.false),

@@ -1,6 +1,6 @@
 use native.Mathlib.Omega.{arith}
 use mathlib.Core.Path.{refl}
-use Rattle.binders.proofs.BinderLaws.{binder_here, no_name, some-name}
+use Rattle.binders.proofs.BinderLaws.{binder_here, no_name, some_name}
 use Rattle.binders.proofs.runs.is_hidden.Goals as goal
 
 pub is_anonymous-requires : goal.is_anonymous-requires
@@ -14,4 +14,4 @@ returns-then-is_anonymous c =
 
 pub returns : goal.returns
 returns c =
-    some-name _ c.requires.0.ready.sound _ c.requires.1 c.requires.2 _ _ c.binder_name.ensures.0 c.is_anonymous.ensures c.if-is_anonymous.false
+    some_name _ c.requires.0.ready.sound _ c.requires.1 c.requires.2 _ _ c.binder_name.ensures.0 c.is_anonymous.ensures c.if-is_anonymous.false

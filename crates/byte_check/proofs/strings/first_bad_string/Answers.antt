@@ -1,7 +1,7 @@
 use Rattle.pool.specs.Rules.{string_ok}
 use Rattle.pool.specs.Tables.{string_word}
 use Rattle.byte_check.proofs.Scan.{bad_start, bad_step, bad_found, bad_none}
-use Rattle.byte_check.proofs.RunLaws.{known_none, known_next, before-next}
+use Rattle.byte_check.proofs.RunLaws.{known_none, known_next, before_next}
 use Rattle.pool.specs.Areas.{over}
 use Rattle.byte_check.specs.Runs.{Known, before}
 use mathlib.Core.List.{List, []}
@@ -37,7 +37,7 @@ loop-r-preserved c = (
   λ ws. bad_step (string_ok (over c.args.bytes.now c.args.names.now ws)) _ _ _ c.loop-r-test.true _ (c.string_ok.ensures ws) (c.loop-r.invariant.1 ws) c.if-not-string_ok.false,
   known_next (over c.args.bytes.now c.args.names.now []) c.loop-r.r c.string_end.result c.string_end.ensures.0 c.loop-r.known c.larger-known.result c.loop-r.invariant.2
       (sym (c.string_ok.ensures []) ∙ c.if-not-string_ok.false) c.larger-known.ensures,
-  before-next (λ (i : ℕ). string_word c.args.names.now i 0) c.loop-r.r c.string_word-last.result c.string_word-last.ensures.0,
+  before_next (λ (i : ℕ). string_word c.args.names.now i 0) c.loop-r.r c.string_word-last.result c.string_word-last.ensures.0,
 )
 
 pub returns : goal.returns

@@ -1,10 +1,10 @@
-use Rattle.byte_check.proofs.RunLaws.{string-outside, string_falls, string-is, string_ascii}
+use Rattle.byte_check.proofs.RunLaws.{string_outside, string_falls, string_is, string_ascii}
 use Rattle.pool.specs.Areas.{over}
 use Rattle.byte_check.proofs.strings.string_ok.Goals as goal
 
 pub returns-then-bytes-end : goal.returns-then-bytes-end
 returns-then-bytes-end c =
-    λ ws. string-outside (over c.args.bytes.now c.args.names.now ws) c.args.r c.string_end-end.result c.string_end-end.ensures.0 c.if-bytes-end.true
+    λ ws. string_outside (over c.args.bytes.now c.args.names.now ws) c.args.r c.string_end-end.result c.string_end-end.ensures.0 c.if-bytes-end.true
 
 pub returns-then-offset-last : goal.returns-then-offset-last
 returns-then-offset-last c =
@@ -18,5 +18,5 @@ returns-then-end-ascii c =
 
 pub returns : goal.returns
 returns c =
-    λ ws. string-is (over c.args.bytes.now c.args.names.now ws) c.args.r c.string_end-end.result c.string_end-end.ensures.0
+    λ ws. string_is (over c.args.bytes.now c.args.names.now ws) c.args.r c.string_end-end.result c.string_end-end.ensures.0
     c.if-bytes-end.false _ _ c.string_word-offset.ensures.0 c.requires.1 _ c.if-offset-last.false c.is_valid.ensures

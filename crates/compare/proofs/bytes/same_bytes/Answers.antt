@@ -1,10 +1,10 @@
 use native.Mathlib.Omega.{arith}
-use Rattle.compare.proofs.NameLaws.{bytes-differ, bytes_on, bytes_off, bytes_end}
+use Rattle.compare.proofs.NameLaws.{bytes_differ, bytes_on, bytes_off, bytes_end}
 use Rattle.compare.proofs.bytes.same_bytes.Goals as goal
 
 pub returns-then-x-y : goal.returns-then-x-y
 returns-then-x-y c =
-    bytes-differ c.args.x.now c.args.y.now c.if-x-y.true
+    bytes_differ c.args.x.now c.args.y.now c.if-x-y.true
 
 pub returns-then-x-i : goal.returns-then-x-i
 returns-then-x-i c =

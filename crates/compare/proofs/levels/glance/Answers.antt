@@ -1,9 +1,9 @@
-use Rattle.compare.proofs.LevelLaws.{one-row, other_kinds, both_zero, branches, names_there, params_agree, params_differ}
+use Rattle.compare.proofs.LevelLaws.{one_row, other_kinds, both_zero, branches, names_there, params_agree, params_differ}
 use Rattle.compare.proofs.levels.glance.Goals as goal
 
 pub returns-then-a-b : goal.returns-then-a-b
 returns-then-a-b c =
-    one-row _ _ _ _ c.requires.0 _ _ c.requires.1 c.requires.2 c.if-a-b.true
+    one_row _ _ _ _ c.requires.0 _ _ c.requires.1 c.requires.2 c.if-a-b.true
 
 pub returns-then-kind-level_kind : goal.returns-then-kind-level_kind
 returns-then-kind-level_kind c =

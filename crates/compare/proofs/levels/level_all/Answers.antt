@@ -1,6 +1,6 @@
 use Rattle.pool.specs.Areas.{over}
 use Rattle.compare.specs.Equal.{EqualLevels}
-use Rattle.compare.proofs.SeenLaws.{holds-none}
+use Rattle.compare.proofs.SeenLaws.{holds_none}
 use Rattle.compare.proofs.levels.level_all.Goals as goal
 
 pub level-requires : goal.level-requires
@@ -9,6 +9,6 @@ level-requires c =
       ready = c.requires.0;
       a_row = c.requires.1;
       b_row = c.requires.2;
-      holds = holds-none
+      holds = holds_none
           (EqualLevels (over c.args.bytes.now c.args.names.now c.args.words.now)) 1024;
     }

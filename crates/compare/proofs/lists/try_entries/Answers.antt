@@ -2,7 +2,7 @@ use native.Mathlib.Omega.{arith}
 use mathlib.Core.Bool.{true}
 use mathlib.Core.Path.{refl, sym}
 use Rattle.compare.proofs.LevelLaws.{list_end, entry_agrees, entries_there}
-use Rattle.compare.proofs.ListLaws.{entry-stops, told_all}
+use Rattle.compare.proofs.ListLaws.{entry_stops, told_all}
 use Rattle.compare.proofs.lists.try_entries.Goals as goal
 
 pub try_level-tried-requires : goal.try_level-tried-requires
@@ -11,7 +11,7 @@ try_level-tried-requires c =
 
 pub returns-then-tried-ne1 : goal.returns-then-tried-ne1
 returns-then-tried-ne1 c =
-    entry-stops c.args.bytes.now c.args.names.now c.args.words.now c.args.t c.args.x c.args.y c.args.n c.loop-i.i _
+    entry_stops c.args.bytes.now c.args.names.now c.args.words.now c.args.t c.args.x c.args.y c.args.n c.loop-i.i _
     c.loop-i-test.true _ _ c.list_entry-level_x.ensures.0 c.list_entry-level_y.ensures.0 c.loop-i.invariant.1 _
     c.try_level-tried.ensures c.if-tried-ne1.true
 

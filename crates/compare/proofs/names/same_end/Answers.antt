@@ -1,11 +1,11 @@
 use borrow.Author.Tests.{eq-eqb, ne_eqb}
 use Rattle.compare.specs.Equal.{ends_same}
-use Rattle.compare.proofs.NameLaws.{string-rows}
+use Rattle.compare.proofs.NameLaws.{string_rows}
 use Rattle.compare.proofs.names.same_end.Goals as goal
 
 pub same_string-requires : goal.same_string-requires
 same_string-requires c =
-    rw (c.name_low-string_a.ensures.0, c.name_low-string_b.ensures.0) (string-rows _ _ _ _ _ _ _ c.requires c.if-kind-eq-NAME_STRING.true)
+    rw (c.name_low-string_a.ensures.0, c.name_low-string_b.ensures.0) (string_rows _ _ _ _ _ _ _ c.requires c.if-kind-eq-NAME_STRING.true)
 
 pub returns-then-kind-eq-NAME_STRING : goal.returns-then-kind-eq-NAME_STRING
 unfolding ends_same

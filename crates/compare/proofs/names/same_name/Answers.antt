@@ -1,5 +1,5 @@
 use native.Mathlib.Omega.{arith}
-use Rattle.compare.proofs.NameLaws.{kinds_differ, both_roots, same_row, ends-differ, ends_same_lem, prefixes, two-names}
+use Rattle.compare.proofs.NameLaws.{kinds_differ, both_roots, same_row, ends_differ, ends_same_lem, prefixes, two_names}
 use Rattle.compare.proofs.names.same_name.Goals as goal
 
 pub returns-then-kind-name_kind : goal.returns-then-kind-name_kind
@@ -14,20 +14,20 @@ returns-then-kind-eq-NAME_ANONYMOUS c =
 
 pub returns-then-not-same_end : goal.returns-then-not-same_end
 returns-then-not-same_end c =
-    ends-differ _ _ _ _ _ _ _
-    (two-names _ _ _ _ _ _ _ _ c.requires.0 c.loop-x.invariant.0 c.loop-x.invariant.1 c.name_kind-kind.ensures.0
+    ends_differ _ _ _ _ _ _ _
+    (two_names _ _ _ _ _ _ _ _ c.requires.0 c.loop-x.invariant.0 c.loop-x.invariant.1 c.name_kind-kind.ensures.0
     c.name_kind.ensures.0 c.if-kind-name_kind.false c.if-kind-eq-NAME_ANONYMOUS.false) _
     c.same_end.ensures c.if-not-same_end.true _ c.loop-x.invariant.2
 
 pub loop-x-smaller : goal.loop-x-smaller
 loop-x-smaller c =
-    let two = two-names _ _ _ _ _ _ _ _ c.requires.0 c.loop-x.invariant.0 c.loop-x.invariant.1 c.name_kind-kind.ensures.0
+    let two = two_names _ _ _ _ _ _ _ _ c.requires.0 c.loop-x.invariant.0 c.loop-x.invariant.1 c.name_kind-kind.ensures.0
     c.name_kind.ensures.0 c.if-kind-name_kind.false c.if-kind-eq-NAME_ANONYMOUS.false in
     omega (arith, (prefixes _ _ _ _ _ _ _ two).0, c.name_prefix-x.ensures.0)
 
 pub loop-x-preserved : goal.loop-x-preserved
 loop-x-preserved c =
-    let two = two-names _ _ _ _ _ _ _ _ c.requires.0 c.loop-x.invariant.0 c.loop-x.invariant.1 c.name_kind-kind.ensures.0
+    let two = two_names _ _ _ _ _ _ _ _ c.requires.0 c.loop-x.invariant.0 c.loop-x.invariant.1 c.name_kind-kind.ensures.0
     c.name_kind.ensures.0 c.if-kind-name_kind.false c.if-kind-eq-NAME_ANONYMOUS.false in (
       omega (
         arith,

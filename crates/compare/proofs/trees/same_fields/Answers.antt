@@ -1,5 +1,5 @@
 use mathlib.Core.Path.{refl}
-use Rattle.compare.proofs.EqualLaws.{say_var, say_const, say_app, say_sort, say_named, say_literal, sort-levels, literal-strings}
+use Rattle.compare.proofs.EqualLaws.{say_var, say_const, say_app, say_sort, say_named, say_literal, sort_levels, literal_strings}
 use Rattle.compare.proofs.trees.same_fields.Goals as goal
 
 pub returns-then-kind-eq-EXPR_VAR : goal.returns-then-kind-eq-EXPR_VAR
@@ -16,7 +16,7 @@ returns-then-kind-eq-EXPR_APP c =
 
 pub same_level-requires : goal.same_level-requires
 same_level-requires c =
-    sort-levels _ _ _ _ _ _ _ c.requires _ _ c.sort_level-level_a.ensures.0 c.sort_level-level_b.ensures.0 c.if-kind-eq-EXPR_SORT.true
+    sort_levels _ _ _ _ _ _ _ c.requires _ _ c.sort_level-level_a.ensures.0 c.sort_level-level_b.ensures.0 c.if-kind-eq-EXPR_SORT.true
 
 pub returns-then-kind-eq-EXPR_SORT : goal.returns-then-kind-eq-EXPR_SORT
 returns-then-kind-eq-EXPR_SORT c =
@@ -31,7 +31,7 @@ returns-then-kind-lt-EXPR_NAT c =
 
 pub same_string-requires : goal.same_string-requires
 same_string-requires c =
-    literal-strings _ _ _ _ _ _ _ c.requires _ _ c.literal_string-string_a.ensures.0 c.literal_string-string_b.ensures.0 c.if-kind-lt-EXPR_NAT.false
+    literal_strings _ _ _ _ _ _ _ c.requires _ _ c.literal_string-string_a.ensures.0 c.literal_string-string_b.ensures.0 c.if-kind-lt-EXPR_NAT.false
 
 pub returns : goal.returns
 returns c =

@@ -1,5 +1,5 @@
 use native.Mathlib.Omega.{arith}
-use Rattle.declarations.proofs.DeclarLaws.{parts_row, chain_after, scope-after, asked-within}
+use Rattle.declarations.proofs.DeclarLaws.{parts_row, chain_after, scope_after, asked-within}
 use Rattle.declarations.proofs.declars.def_parts.Goals as goal
 
 pub def_rest-s-requires : goal.def_rest-s-requires
@@ -11,7 +11,7 @@ def_rest-s-requires c =
 
 pub def_value-s-requires : goal.def_value-s-requires
 def_value-s-requires c =
-    let fits = scope-after c.requires.0 _ c.taken-end.ensures.few in asked-within c.requires.0 _ _ (omega (arith, fits)) c.taken-end.ensures.value_low
+    let fits = scope_after c.requires.0 _ c.taken-end.ensures.few in asked-within c.requires.0 _ _ (omega (arith, fits)) c.taken-end.ensures.value_low
 
 pub returns : goal.returns
 returns c =

@@ -1,4 +1,4 @@
-use Rattle.declarations.proofs.DeclarLaws.{rest-none, rest_some}
+use Rattle.declarations.proofs.DeclarLaws.{rest_none, rest_some}
 use Rattle.declarations.proofs.declars.def_rest.Goals as goal
 
 pub returns-then-count-eq0 : goal.returns-then-count-eq0
@@ -9,7 +9,7 @@ returns-then-count-eq0 c =
       c.put_join-s.ensures,
       c.pp_type-s.ensures,
       c.def_start-s.ensures,
-    ) (rest-none _ _ _ _ _ _ _ c.if-count-eq0.true c.requires.row_in_chain.1)
+    ) (rest_none _ _ _ _ _ _ _ c.if-count-eq0.true c.requires.row_in_chain.1)
 
 pub returns : goal.returns
 returns c =

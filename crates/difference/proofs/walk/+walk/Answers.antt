@@ -1,5 +1,5 @@
 use native.Mathlib.Omega.{arith}
-use Rattle.difference.proofs.WalkLaws.{walked_absent, walked_alone, walked_quick, ask_bodies, walked-body, ask_seconds, walked-second, ask_firsts, walked-first}
+use Rattle.difference.proofs.WalkLaws.{walked_absent, walked_alone, walked_quick, ask_bodies, walked_body, ask_seconds, walked_second, ask_firsts, walked_first}
 use Rattle.difference.proofs.walk.+walk.Goals as goal
 
 pub returns-then-x-eq0 : goal.returns-then-x-eq0
@@ -23,7 +23,7 @@ walk-body-requires t c =
 
 pub returns-then-body-ne1 : goal.returns-then-body-ne1
 returns-then-body-ne1 t c =
-    walked-body _ _ _ _ _ c.args.d _ _ c.args.c c.args.limited c.requires c.if-x-eq0.false c.if-y-eq0.false _ _
+    walked_body _ _ _ _ _ c.args.d _ _ c.args.c c.args.limited c.requires c.if-x-eq0.false c.if-y-eq0.false _ _
     c.same_class-known.ensures _ c.at_once-quick.ensures c.if-quick-lt2.false _ c.expr_kind-kind.ensures.0 _ _ c.body_part-body_x.ensures
     c.body_part-body_y.ensures _ _ _ _ c.walk-body.ensures c.if-body-ne1.true
 
@@ -36,7 +36,7 @@ walk-second-requires t c =
 
 pub returns-then-second-ne1 : goal.returns-then-second-ne1
 returns-then-second-ne1 t c =
-    walked-second _ _ _ _ _ c.args.d _ _ c.args.c c.args.limited c.requires c.if-x-eq0.false c.if-y-eq0.false _ _
+    walked_second _ _ _ _ _ c.args.d _ _ c.args.c c.args.limited c.requires c.if-x-eq0.false c.if-y-eq0.false _ _
     c.same_class-known.ensures _ c.at_once-quick.ensures c.if-quick-lt2.false _ c.expr_kind-kind.ensures.0 _ _ c.body_part-body_x.ensures
     c.body_part-body_y.ensures _ _ _ _ c.walk-body.ensures c.if-body-ne1.false _ _ c.second_part-second_x.ensures c.second_part-second_y.ensures _
     _ _ _ c.walk-second.ensures c.if-second-ne1.true
@@ -54,7 +54,7 @@ walk-first-requires t c =
 
 pub returns : goal.returns
 returns t c =
-    walked-first _ _ _ _ _ c.args.d _ _ c.args.c c.args.limited c.requires c.if-x-eq0.false c.if-y-eq0.false _ _
+    walked_first _ _ _ _ _ c.args.d _ _ c.args.c c.args.limited c.requires c.if-x-eq0.false c.if-y-eq0.false _ _
     c.same_class-known.ensures _ c.at_once-quick.ensures c.if-quick-lt2.false _ c.expr_kind-kind.ensures.0 _ _ c.body_part-body_x.ensures
     c.body_part-body_y.ensures _ _ _ _ c.walk-body.ensures c.if-body-ne1.false _ _ c.second_part-second_x.ensures c.second_part-second_y.ensures _
     _ _ _ c.walk-second.ensures c.if-second-ne1.false _ _ c.first_part-first_x.ensures c.first_part-first_y.ensures _ _ _ _ c.walk-first.ensures _

@@ -3,21 +3,21 @@ use Prim.Native.Nat.{ℕ, ◌-◌}
 use native.Mathlib.Omega.{arith}
 use mathlib.Core.Bool.{Bool, cond}
 use Rattle.document.specs.Rows.{word}
-use Rattle.document.proofs.Faults.{text-none, text-next, ok_is, scan-start, scan_step, fault-here, fault_end}
+use Rattle.document.proofs.Faults.{text_none, text_next, ok_is, scan-start, scan_step, fault_here, fault_end}
 use Rattle.document.proofs.check.find_fault.Goals as goal
 
 pub loop-i-init : goal.loop-i-init
-loop-i-init c = (omega arith, text-none c.args.rows.now, omega arith, scan-start _ _ _)
+loop-i-init c = (omega arith, text_none c.args.rows.now, omega arith, scan-start _ _ _)
 
 pub returns-then-not-row_ok : goal.returns-then-not-row_ok
 returns-then-not-row_ok c =
-    fault-here _ _ _ _ c.loop-i-test.true (ok_is _ _ _ _ _ c.loop-i.invariant.1 c.row_ok.ensures ∙ c.if-not-row_ok.true) c.loop-i.invariant.3
+    fault_here _ _ _ _ c.loop-i-test.true (ok_is _ _ _ _ _ c.loop-i.invariant.1 c.row_ok.ensures ∙ c.if-not-row_ok.true) c.loop-i.invariant.3
 
 pub loop-i-preserved : goal.loop-i-preserved
 loop-i-preserved c =
     let l = c.loop-i in (
       omega arith,
-      text-next _ _ _ _ l.invariant.1 c.own_text-before.ensures.0,
+      text_next _ _ _ _ l.invariant.1 c.own_text-before.ensures.0,
       omega (arith, c.own_text-before.ensures),
       scan_step _ _ _ _
           c.loop-i-test.true

@@ -1,6 +1,6 @@
 use borrow.Author.Tests.{ne_eqb, eq-eqb, lt-ltb, le-ltb, lt-leb}
 use Rattle.document.specs.Sink.{put_row}
-use Rattle.document.proofs.Areas.{row-stored}
+use Rattle.document.proofs.Areas.{row_stored}
 use Rattle.document.proofs.sink.put_row.Goals as goal
 
 pub returns-then-s-ne0 : goal.returns-then-s-ne0
@@ -17,5 +17,5 @@ returns-then-rows-at c = rw (eq-eqb _ _ c.if-s-ne0.false, lt-ltb _ _ c.if-writte
 
 pub returns : goal.returns
 returns c =
-    row-stored _ _ _ _ _ _ _ c.if-s-ne0.false c.if-written-ge16384.false c.if-rows-at.false _ _ _ _ c.low-count.ensures
+    row_stored _ _ _ _ _ _ _ c.if-s-ne0.false c.if-written-ge16384.false c.if-rows-at.false _ _ _ _ c.low-count.ensures
     c.low-flat.ensures c.low-first.ensures c.low-has.ensures

@@ -1,8 +1,8 @@
-use Rattle.equality.proofs.MoveLaws.{put-none, put_first_alone, put_second_alone, put_both}
+use Rattle.equality.proofs.MoveLaws.{put_none, put_first_alone, put_second_alone, put_both}
 use Rattle.equality.proofs.puts.put_part.Goals as goal
 
 pub returns-then-y-eq0 : goal.returns-then-y-eq0
-returns-then-y-eq0 c = put-none _ _ _ _ c.if-x-eq0.true c.if-y-eq0.true
+returns-then-y-eq0 c = put_none _ _ _ _ c.if-x-eq0.true c.if-y-eq0.true
 
 pub returns-then-x-eq0 : goal.returns-then-x-eq0
 returns-then-x-eq0 c = put_first_alone _ _ _ _ c.if-x-eq0.true c.if-y-eq0.false

@@ -1,4 +1,4 @@
-use Rattle.expr_check.proofs.Decide.{kind_is, expr-none}
+use Rattle.expr_check.proofs.Decide.{kind_is, expr_none}
 use Rattle.pool.specs.Rules.{expr_fields_ok, depth_by, loose_by}
 use Rattle.pool.specs.Kinds.{expr_kind}
 use Rattle.pool.specs.Areas.{over}
@@ -80,7 +80,7 @@ returns-in_default c =
     let m = c.in_default in
     λ bs k. rw (
       ← e,
-      expr-none _ m.in_default-own.rest.0.0.0.0.0.0.0.0.0.1 m.in_default-own.rest.0.0.0.0.0.0.0.0.1 m.in_default-own.rest.0.0.0.0.0.0.0.1 m.in_default-own.rest.0.0.0.0.0.0.1
+      expr_none _ m.in_default-own.rest.0.0.0.0.0.0.0.0.0.1 m.in_default-own.rest.0.0.0.0.0.0.0.0.1 m.in_default-own.rest.0.0.0.0.0.0.0.1 m.in_default-own.rest.0.0.0.0.0.0.1
           m.in_default-own.rest.0.0.0.0.0.1 m.in_default-own.rest.0.0.0.0.1 m.in_default-own.rest.0.0.0.1 m.in_default-own.rest.0.0.1 m.in_default-own.rest.0.1 m.in_default-own.rest.1,
       c.leaf-in_default.ensures,
     )

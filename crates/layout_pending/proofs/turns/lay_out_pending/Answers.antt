@@ -3,10 +3,10 @@ use native.Mathlib.Omega.{arith}
 use mathlib.Core.Bool.{Bool}
 use mathlib.Core.Path.{refl, sym, ap, ◌∙◌}
 use Rattle.document.proofs.Words.{kind_rest}
-use Rattle.layout.proofs.Cases.{row_inside, text_asks, laid-text, break_asks, laid-break}
+use Rattle.layout.proofs.Cases.{row_inside, text_asks, laid_text, break_asks, laid_break}
 use Rattle.layout_pending.specs.Contract.{last_child}
 use Rattle.layout_pending.proofs.Taking.{head, head_room, join_asks, right_within}
-use Rattle.layout_pending.proofs.Taking.{child_below, child_less, nest-within, taken-nest, test_asks, group-within, taken-group}
+use Rattle.layout_pending.proofs.Taking.{child_below, child_less, nest_within, taken_nest, test_asks, group_within, taken_group}
 use Rattle.layout_pending.proofs.Turning.{turning_start, turning_end, top_room, depth_small, top_of, top_taking}
 use Rattle.layout_pending.proofs.Turning.{turn_taken, turn_taken_less, put_asks, turn_put, turn_put_less, next_asks, turn_join, turn_join_less}
 use Rattle.layout_pending.proofs.turns.lay_out_pending.Goals as goal
@@ -37,7 +37,7 @@ pub loop-depth-preserved-then-kind-eq0 : goal.loop-depth-preserved-then-kind-eq0
 loop-depth-preserved-then-kind-eq0 c =
     let t = top_of c.loop-depth.invariant c.loop-depth-test.true c.entry_at-e.ensures in
     let e = sym c.word_in-kind.ensures.0 ∙ c.if-kind-eq0.true in
-    turn_taken t c.lay_text-c.auto.listing (laid-text (head_room (top_taking t)) _ _ _ _ e c.lay_text-c.ensures)
+    turn_taken t c.lay_text-c.auto.listing (laid_text (head_room (top_taking t)) _ _ _ _ e c.lay_text-c.ensures)
 
 pub lay_break-c-requires : goal.lay_break-c-requires
 lay_break-c-requires c =
@@ -53,7 +53,7 @@ pub loop-depth-preserved-then-kind-eq2 : goal.loop-depth-preserved-then-kind-eq2
 loop-depth-preserved-then-kind-eq2 c =
     let t = top_of c.loop-depth.invariant c.loop-depth-test.true c.entry_at-e.ensures in
     let e = sym c.word_in-kind.ensures.0 ∙ c.if-kind-eq2.true in
-    turn_taken t c.lay_break-c.auto.listing (laid-break (head_room (top_taking t)) _ _ _ _ e c.lay_break-c.ensures)
+    turn_taken t c.lay_break-c.auto.listing (laid_break (head_room (top_taking t)) _ _ _ _ e c.lay_break-c.ensures)
 
 pub last_child-requires : goal.last_child-requires
 last_child-requires c =
@@ -101,7 +101,7 @@ word_in-requires c =
 pub overflow_add-nest : goal.overflow_add-nest
 overflow_add-nest c =
     let t = top_of c.loop-depth.invariant c.loop-depth-test.true c.entry_at-e.ensures in
-    let n = (head (top_taking t)).nest-room in
+    let n = (head (top_taking t)).nest_room in
     let z = c.word_in.ensures.1 in
     omega arith
 
@@ -116,7 +116,7 @@ put-requires-then-kind-eq3 c =
     let e = sym c.word_in-kind.ensures.0 ∙ c.if-kind-eq3.true in
     let i = c.entry_at-e.result in
     let child = c.last_child-then-kind-eq3.ensures ∙ ap (λ (n : ℕ). last_child i (i.nest + n) i.flat) c.word_in.ensures.0 in
-    put_asks t _ _ child (nest-within (top_taking t) e)
+    put_asks t _ _ child (nest_within (top_taking t) e)
 
 pub loop-depth-smaller-then-kind-eq3 : goal.loop-depth-smaller-then-kind-eq3
 loop-depth-smaller-then-kind-eq3 c =
@@ -124,7 +124,7 @@ loop-depth-smaller-then-kind-eq3 c =
     let e = sym c.word_in-kind.ensures.0 ∙ c.if-kind-eq3.true in
     let i = c.entry_at-e.result in
     let child = c.last_child-then-kind-eq3.ensures ∙ ap (λ (n : ℕ). last_child i (i.nest + n) i.flat) c.word_in.ensures.0 in
-    turn_put_less t _ (nest-within (top_taking t) e) _ _ c.put-then-kind-eq3.ensures child (child_less (top_taking t) 0 e _ refl)
+    turn_put_less t _ (nest_within (top_taking t) e) _ _ c.put-then-kind-eq3.ensures child (child_less (top_taking t) 0 e _ refl)
 
 pub loop-depth-preserved-then-kind-eq3 : goal.loop-depth-preserved-then-kind-eq3
 loop-depth-preserved-then-kind-eq3 c =
@@ -132,7 +132,7 @@ loop-depth-preserved-then-kind-eq3 c =
     let e = sym c.word_in-kind.ensures.0 ∙ c.if-kind-eq3.true in
     let i = c.entry_at-e.result in
     let child = c.last_child-then-kind-eq3.ensures ∙ ap (λ (n : ℕ). last_child i (i.nest + n) i.flat) c.word_in.ensures.0 in
-    turn_put t _ (nest-within (top_taking t) e) _ _ c.put-then-kind-eq3.ensures child refl (taken-nest (top_taking t) e)
+    turn_put t _ (nest_within (top_taking t) e) _ _ c.put-then-kind-eq3.ensures child refl (taken_nest (top_taking t) e)
 
 pub is_flat-flat-requires : goal.is_flat-flat-requires
 is_flat-flat-requires c =
@@ -153,7 +153,7 @@ put-requires-else-kind-eq3 c =
     let e = sym c.word_in-kind.ensures.0 ∙ k.1 in
     let i = c.entry_at-e.result in
     let child = c.last_child-else-kind-eq3.ensures ∙ ap (λ (f : Bool). last_child i i.nest f) c.is_flat-flat.ensures in
-    put_asks t _ _ child (group-within (top_taking t) k.0 e)
+    put_asks t _ _ child (group_within (top_taking t) k.0 e)
 
 pub loop-depth-smaller : goal.loop-depth-smaller
 loop-depth-smaller c =
@@ -162,7 +162,7 @@ loop-depth-smaller c =
     let e = sym c.word_in-kind.ensures.0 ∙ k.1 in
     let i = c.entry_at-e.result in
     let child = c.last_child-else-kind-eq3.ensures ∙ ap (λ (f : Bool). last_child i i.nest f) c.is_flat-flat.ensures in
-    turn_put_less t _ (group-within (top_taking t) k.0 e) _ _ c.put-else-kind-eq3.ensures child (child_less (top_taking t) (suc k.0) e _ refl)
+    turn_put_less t _ (group_within (top_taking t) k.0 e) _ _ c.put-else-kind-eq3.ensures child (child_less (top_taking t) (suc k.0) e _ refl)
 
 pub loop-depth-preserved : goal.loop-depth-preserved
 loop-depth-preserved c =
@@ -171,7 +171,7 @@ loop-depth-preserved c =
     let e = sym c.word_in-kind.ensures.0 ∙ k.1 in
     let i = c.entry_at-e.result in
     let child = c.last_child-else-kind-eq3.ensures ∙ ap (λ (f : Bool). last_child i i.nest f) c.is_flat-flat.ensures in
-    turn_put t _ (group-within (top_taking t) k.0 e) _ _ c.put-else-kind-eq3.ensures child c.tested_unless-c.ensures (taken-group (top_taking t) k.0 e)
+    turn_put t _ (group_within (top_taking t) k.0 e) _ _ c.put-else-kind-eq3.ensures child c.tested_unless-c.ensures (taken_group (top_taking t) k.0 e)
 
 pub returns : goal.returns
 returns c = turning_end c.loop-depth.invariant c.loop-depth-test.false

@@ -1,5 +1,5 @@
-use Rattle.levels.proofs.Universes.{level_row, plus_emits, zero_emits, param_below, param_emits, max_kind, max-below, max_emits, plus-is}
-use Rattle.pieces.proofs.Emitting.{emit-stopped}
+use Rattle.levels.proofs.Universes.{level_row, plus_emits, zero_emits, param_below, param_emits, max_kind, max_below, max_emits, plus_is}
+use Rattle.pieces.proofs.Emitting.{emit_stopped}
 use Rattle.document.specs.Sink.State.{state}
 use borrow.Author.Tests.{ne_eqb}
 use native.Mathlib.Omega.{arith}
@@ -42,7 +42,7 @@ pp_base-pp_max-requires t c =
 
 pub pp_level-returns-then-s-ne0 : goal.pp_level-returns-then-s-ne0
 pp_level-returns-then-s-ne0 t c =
-    sym (emit-stopped _ (state c.args.rows.now c.args.text.now c.args.s) (ne_eqb _ _ c.if-s-ne0.true))
+    sym (emit_stopped _ (state c.args.rows.now c.args.text.now c.args.s) (ne_eqb _ _ c.if-s-ne0.true))
 
 pub pp_level-returns-then-level_kind-eq-LEVEL_ZERO : goal.pp_level-returns-then-level_kind-eq-LEVEL_ZERO
 pp_level-returns-then-level_kind-eq-LEVEL_ZERO t c =
@@ -58,7 +58,7 @@ pp_level-returns t c =
     rw (
       c.put_plus.ensures,
       ← c.level_succs-l.ensures.same,
-      plus-is c.args.bytes.now c.args.names.now
+      plus_is c.args.bytes.now c.args.names.now
           c.args.words.now c.level_succs-l.result.base
           (level_row c.args.bytes.now c.args.names.now c.args.words.now c.args.t c.requires.0 c.level_succs-l.result.base (omega
           (arith, c.level_succs-l.ensures.low, c.requires.1))) (λ e. c.if-level_kind-eq-LEVEL_ZERO.false (c.level_kind.ensures.0 ∙ e))
@@ -67,14 +67,14 @@ pp_level-returns t c =
 
 pub pp_max-pp_level-s-requires : goal.pp_max-pp_level-s-requires
 pp_max-pp_level-s-requires t c =
-    let b = max-below c.args.bytes.now c.args.names.now c.args.words.now c.args.r
+    let b = max_below c.args.bytes.now c.args.names.now c.args.words.now c.args.r
     (level_row c.args.bytes.now c.args.names.now c.args.words.now c.args.t c.requires.0 c.args.r
     c.requires.1) c.requires.2 c.requires.3 in
     (omega (arith, c.level_first-left.ensures.0, b.0), (c.requires.0, omega (arith, c.level_first-left.ensures.0, b.0, c.requires.1), omega arith))
 
 pub pp_max-pp_level-s-requires-2 : goal.pp_max-pp_level-s-requires-2
 pp_max-pp_level-s-requires-2 t c =
-    let b = max-below c.args.bytes.now c.args.names.now c.args.words.now c.args.r
+    let b = max_below c.args.bytes.now c.args.names.now c.args.words.now c.args.r
     (level_row c.args.bytes.now c.args.names.now c.args.words.now c.args.t c.requires.0 c.args.r
     c.requires.1) c.requires.2 c.requires.3 in
     (omega (arith, c.level_second-right.ensures.0, b.1), (c.requires.0, omega (arith, c.level_second-right.ensures.0, b.1, c.requires.1), omega arith))

@@ -1,4 +1,4 @@
-use Rattle.levels.proofs.Universes.{level_row, succ_below, sort-type, sort-sort}
+use Rattle.levels.proofs.Universes.{level_row, succ_below, sort_type, sort_sort}
 use Rattle.document.specs.Sink.State.{state}
 use Prim.Native.Nat.{◌<◌}
 use native.Mathlib.Omega.{arith}
@@ -16,13 +16,13 @@ put_sort-requires c =
 pub returns-then-level_kind-eq-LEVEL_SUCC : goal.returns-then-level_kind-eq-LEVEL_SUCC
 returns-then-level_kind-eq-LEVEL_SUCC c =
     rw (c.put_sort.ensures, c.level_first-below.ensures.0)
-    (sort-type c.args.bytes.now c.args.names.now c.args.words.now c.args.r
+    (sort_type c.args.bytes.now c.args.names.now c.args.words.now c.args.r
     (level_row c.args.bytes.now c.args.names.now c.args.words.now c.args.t c.requires.0 c.args.r c.requires.1)
     (sym c.level_kind.ensures.0 ∙ c.if-level_kind-eq-LEVEL_SUCC.true) (state c.args.rows.now c.args.text.now c.args.s))
 
 pub returns : goal.returns
 returns c =
     c.put_sort-2.ensures
-    ∙ sort-sort c.args.bytes.now c.args.names.now c.args.words.now c.args.r (level_row c.args.bytes.now
+    ∙ sort_sort c.args.bytes.now c.args.names.now c.args.words.now c.args.r (level_row c.args.bytes.now
     c.args.names.now c.args.words.now c.args.t c.requires.0 c.args.r c.requires.1) (λ e. c.if-level_kind-eq-LEVEL_SUCC.false
     (c.level_kind.ensures.0 ∙ e)) (state c.args.rows.now c.args.text.now c.args.s)

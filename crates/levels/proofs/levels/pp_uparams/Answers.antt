@@ -1,4 +1,4 @@
-use Rattle.levels.proofs.Universes.{list_fits, no-levels, some-levels}
+use Rattle.levels.proofs.Universes.{list_fits, no_levels, some_levels}
 use Rattle.document.specs.Sink.State.{state}
 use native.Mathlib.Omega.{arith}
 use mathlib.Core.Path.{sym, ◌∙◌}
@@ -7,7 +7,7 @@ use Rattle.levels.proofs.levels.pp_uparams.Goals as goal
 pub returns-then-count-eq0 : goal.returns-then-count-eq0
 returns-then-count-eq0 c =
     c.put_word.ensures
-    ∙ no-levels c.args.bytes.now c.args.names.now c.args.words.now c.args.r
+    ∙ no_levels c.args.bytes.now c.args.names.now c.args.words.now c.args.r
     (state c.args.rows.now c.args.text.now c.args.s) (sym c.list_length-count.ensures.0
     ∙ c.if-count-eq0.true)
 
@@ -33,6 +33,6 @@ returns c =
       c.list_offset-from.ensures.0,
       c.list_length-count.ensures.0,
     )
-    (some-levels c.args.bytes.now c.args.names.now c.args.words.now c.args.r
+    (some_levels c.args.bytes.now c.args.names.now c.args.words.now c.args.r
     (state c.args.rows.now c.args.text.now c.args.s)
     (λ e. c.if-count-eq0.false (c.list_length-count.ensures.0 ∙ e)))

@@ -1,4 +1,4 @@
-use Rattle.levels.proofs.Universes.{entry-below, tile-step, tile_end}
+use Rattle.levels.proofs.Universes.{entry_below, tile-step, tile_end}
 use Rattle.document.specs.Sink.State.{state}
 use native.Mathlib.Omega.{arith}
 use mathlib.Core.Path.{sym, ◌∙◌}
@@ -8,7 +8,7 @@ pub put_next_level-o-requires : goal.put_next_level-o-requires
 put_next_level-o-requires c = (
   c.requires.0,
   rw c.list_entry-level.ensures.0
-      (entry-below c.args.bytes.now c.args.names.now c.args.words.now c.args.t c.requires.0 c.loop-i.i (omega
+      (entry_below c.args.bytes.now c.args.names.now c.args.words.now c.args.t c.requires.0 c.loop-i.i (omega
       (arith, c.loop-i-test.true, c.requires.2))),
 )
 

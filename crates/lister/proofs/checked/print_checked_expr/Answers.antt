@@ -7,7 +7,7 @@ use Rattle.pretty_printer.specs.Exprs.{expr_doc}
 use Rattle.binders.specs.Options.{indented}
 use Rattle.declarations.proofs.FineLaws.{expr_fine}
 use Rattle.lister.specs.Prints.{Areas}
-use Rattle.lister.proofs.Finishing.{walk_from, walk-accepted, walk-finished}
+use Rattle.lister.proofs.Finishing.{walk_from, walk_accepted, walk-finished}
 use Rattle.lister.proofs.checked.print_checked_expr.Goals as goal
 
 pub finish-requires : goal.finish-requires
@@ -18,7 +18,7 @@ finish-requires c =
     let walked =
     walk_from m _ _ _ _ (length areas.rows) (length areas.text) c.print_expr-s.ensures c.clear.ensures.0 c.clear.ensures.1
     c.start.ensures in
-    (walk-accepted m (expr_fine (indented a.indent) c.requires.indent-small _) a.width areas _ walked, c.requires.width_small)
+    (walk_accepted m (expr_fine (indented a.indent) c.requires.indent_small _) a.width areas _ walked, c.requires.width_small)
 
 pub returns : goal.returns
 returns c =
@@ -28,5 +28,5 @@ returns c =
     let walked =
     walk_from m _ _ _ _ (length areas.rows) (length areas.text) c.print_expr-s.ensures c.clear.ensures.0 c.clear.ensures.1
     c.start.ensures in
-    c.finish.ensures ∙ walk-finished m (expr_fine (indented a.indent) c.requires.indent-small _) a.width areas _ walked
+    c.finish.ensures ∙ walk-finished m (expr_fine (indented a.indent) c.requires.indent_small _) a.width areas _ walked
     (c.print_expr-s.auto.rows ∙ c.clear.auto.rows) (c.print_expr-s.auto.text ∙ c.clear.auto.text)

@@ -1,4 +1,4 @@
-use Rattle.names.proofs.Rows.{name-row, fits_by, component-string, component-number}
+use Rattle.names.proofs.Rows.{name_row, fits_by, component_string, component-number}
 use mathlib.Core.Path.{sym, ◌∙◌}
 use Rattle.names.proofs.components.put_component.Goals as goal
 
@@ -6,7 +6,7 @@ pub read_string-requires : goal.read_string-requires
 read_string-requires c =
     rw c.name_low-low.ensures.0
     (fits_by c.args.bytes.now c.args.names.now c.args.words.now c.args.r
-    (name-row c.args.bytes.now c.args.names.now c.args.words.now c.args.t c.requires.0 c.args.r c.requires.1)
+    (name_row c.args.bytes.now c.args.names.now c.args.words.now c.args.t c.requires.0 c.args.r c.requires.1)
     (sym c.name_kind.ensures.0 ∙ c.if-name_kind-eq-NAME_STRING.true))
 
 pub returns-then-name_kind-eq-NAME_STRING : goal.returns-then-name_kind-eq-NAME_STRING
@@ -15,9 +15,9 @@ returns-then-name_kind-eq-NAME_STRING c =
       c.put_escaped.ensures,
       c.read_string.ensures,
       c.name_low-low.ensures.0,
-      component-string
+      component_string
           c.args.bytes.now c.args.names.now c.args.words.now c.args.r
-          (name-row c.args.bytes.now c.args.names.now c.args.words.now c.args.t c.requires.0 c.args.r c.requires.1)
+          (name_row c.args.bytes.now c.args.names.now c.args.words.now c.args.t c.requires.0 c.args.r c.requires.1)
           (sym c.name_kind.ensures.0 ∙ c.if-name_kind-eq-NAME_STRING.true),
     )
 
@@ -29,6 +29,6 @@ returns c =
       c.name_high-high.ensures.0,
       component-number
           c.args.bytes.now c.args.names.now c.args.words.now c.args.r
-          (name-row c.args.bytes.now c.args.names.now c.args.words.now c.args.t c.requires.0 c.args.r c.requires.1)
+          (name_row c.args.bytes.now c.args.names.now c.args.words.now c.args.t c.requires.0 c.args.r c.requires.1)
           c.requires.2 (λ e. c.if-name_kind-eq-NAME_STRING.false (c.name_kind.ensures.0 ∙ e)),
     )

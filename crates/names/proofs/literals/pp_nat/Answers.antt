@@ -1,11 +1,11 @@
-use Rattle.names.proofs.Rows.{string-fits}
+use Rattle.names.proofs.Rows.{string_fits}
 use Rattle.pool.specs.Tables.{string_at}
 use Rattle.document.specs.Sink.{emit}
 use Rattle.names.proofs.literals.pp_nat.Goals as goal
 
 pub read_string-requires : goal.read_string-requires
 read_string-requires c =
-    string-fits c.args.bytes.now c.args.names.now c.args.words.now c.args.t c.requires.0 c.args.r c.requires.1
+    string_fits c.args.bytes.now c.args.names.now c.args.words.now c.args.t c.requires.0 c.args.r c.requires.1
 
 pub returns : goal.returns
 unfolding emit string_at

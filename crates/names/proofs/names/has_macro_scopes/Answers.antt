@@ -1,4 +1,4 @@
-use Rattle.names.proofs.Texts.{number-named, hygienic_on, hygienic_here}
+use Rattle.names.proofs.Texts.{number_named, hygienic_on, hygienic_here}
 use Rattle.names.specs.Names.{is_hygienic}
 use native.Mathlib.Omega.{arith}
 use mathlib.Core.Path.{sym, ap, ◌∙◌}
@@ -6,7 +6,7 @@ use Rattle.names.proofs.names.has_macro_scopes.Goals as goal
 
 pub prefix_of-at-requires : goal.prefix_of-at-requires
 prefix_of-at-requires c =
-    (c.requires.0, c.loop-at.invariant.0, number-named _ (sym c.is_number.ensures ∙ c.loop-at-test.true))
+    (c.requires.0, c.loop-at.invariant.0, number_named _ (sym c.is_number.ensures ∙ c.loop-at-test.true))
 
 pub loop-at-preserved : goal.loop-at-preserved
 loop-at-preserved c = (

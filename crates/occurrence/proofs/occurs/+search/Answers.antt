@@ -1,7 +1,7 @@
 use native.Mathlib.Omega.{arith}
 use mathlib.Core.Path.{◌∙◌}
 use Rattle.occurrence.proofs.PartLaws.{no_part, a_part}
-use Rattle.occurrence.proofs.SearchLaws.{low_at_once, last_at_once, first-row, second-row, body-row, in_first, in_second, in_body}
+use Rattle.occurrence.proofs.SearchLaws.{low_at_once, last_at_once, first_row, second_row, body_row, in_first, in_second, in_body}
 use Rattle.occurrence.proofs.occurs.+search.Goals as goal
 
 pub look-returns-then-part-eq0 : goal.look-returns-then-part-eq0
@@ -20,7 +20,7 @@ search-returns-then-loose-i-2 t c =
 
 pub search-look-requires : goal.search-look-requires
 search-look-requires t c =
-    let low = first-row _ _ _ _ _ c.args.i c.requires.0 c.requires.1 _ c.expr_loose-loose.ensures.0 c.if-loose-i-2.false _
+    let low = first_row _ _ _ _ _ c.args.i c.requires.0 c.requires.1 _ c.expr_loose-loose.ensures.0 c.if-loose-i-2.false _
     c.expr_kind-kind.ensures.0 _ c.first_part-first.ensures in (omega (arith, low), (c.requires.0, omega (arith, c.requires.1, low)))
 
 pub search-returns-then-look : goal.search-returns-then-look
@@ -30,7 +30,7 @@ search-returns-then-look t c =
 
 pub search-look-requires-2 : goal.search-look-requires-2
 search-look-requires-2 t c =
-    let low = second-row _ _ _ _ _ c.args.i c.requires.0 c.requires.1 _ c.expr_loose-loose.ensures.0 c.if-loose-i-2.false _
+    let low = second_row _ _ _ _ _ c.args.i c.requires.0 c.requires.1 _ c.expr_loose-loose.ensures.0 c.if-loose-i-2.false _
     c.expr_kind-kind.ensures.0 _ c.second_part-second.ensures in (omega (arith, low), (c.requires.0, omega (arith, c.requires.1, low)))
 
 pub search-returns-then-look-2 : goal.search-returns-then-look-2
@@ -41,7 +41,7 @@ search-returns-then-look-2 t c =
 
 pub search-look-requires-3 : goal.search-look-requires-3
 search-look-requires-3 t c =
-    let low = body-row _ _ _ _ _ c.args.i c.requires.0 c.requires.1 _ c.expr_loose-loose.ensures.0 c.if-loose-i-2.false _
+    let low = body_row _ _ _ _ _ c.args.i c.requires.0 c.requires.1 _ c.expr_loose-loose.ensures.0 c.if-loose-i-2.false _
     c.expr_kind-kind.ensures.0 _ c.body_part-body.ensures in (omega (arith, low), (c.requires.0, omega (arith, c.requires.1, low)))
 
 pub search-returns : goal.search-returns

@@ -1,4 +1,4 @@
-use Rattle.pool_check.proofs.Decide.{name-none}
+use Rattle.pool_check.proofs.Decide.{name_none}
 use Rattle.pool.specs.Kinds.{name_kind}
 use Rattle.pool.specs.Rules.{name_fields_ok}
 use Rattle.pool.specs.Depths.{name_depth_by}
@@ -42,4 +42,4 @@ returns-in-2 c =
 pub returns-in_default : goal.returns-in_default
 unfolding name_fields_ok name_depth_by
 returns-in_default c =
-    rw (← c.name_kind-kind.ensures.0, name-none _ c.in_default.in_default-own.rest.0.0.1 c.in_default.in_default-own.rest.0.1 c.in_default.in_default-own.rest.1, c.asked_name-in_default.ensures)
+    rw (← c.name_kind-kind.ensures.0, name_none _ c.in_default.in_default-own.rest.0.0.1 c.in_default.in_default-own.rest.0.1 c.in_default.in_default-own.rest.1, c.asked_name-in_default.ensures)

@@ -10,12 +10,12 @@ use Rattle.document.specs.Sink.State.{state}
 use Rattle.pool.specs.Tables.{Pool}
 use Rattle.pool.specs.Areas.{over}
 use Rattle.pieces.specs.Docs.{under}
-use Rattle.pieces.proofs.Emitting.{emit-stopped}
+use Rattle.pieces.proofs.Emitting.{emit_stopped}
 use Rattle.binders.specs.Options.{options_of}
 use Rattle.binders.specs.Steps.{binder_kind, first_binder}
 use Rattle.pretty_printer.specs.Parts.{row_in, run_part, chain_part}
 use Rattle.pretty_printer.proofs.CallLaws.{names_fit}
-use Rattle.pretty_printer.proofs.RowLaws.{other_kinds, asked-below, kind_of, proj-rows, proj-field, var_index, let_name, let_type, let_value, let_inside, binder_type, binder_style, asked-inside, var-row, leaf_row, proj-row, proj_level, let_row, let_stops, let_goes_on, chain_row_stops, chain_row_goes_on, tail_row, arrow_row, run_row, pis-row, chain_later, chain_room, part_row, groups-row, part_some, let_head_row, positive, chain_in, binder_some, part_positive, group-few, left-few, groups-room, none_row, no_true, head_asked, argument-below, spine_head, spine_argument, spine_whole}
+use Rattle.pretty_printer.proofs.RowLaws.{other_kinds, asked_below, kind_of, proj_rows, proj_field, var_index, let_name, let_type, let_value, let_inside, binder_type, binder_style, asked_inside, var_row, leaf_row, proj_row, proj_level, let_row, let_stops, let_goes_on, chain_row_stops, chain_row_goes_on, tail_row, arrow_row, run_row, pis_row, chain_later, chain_room, part_row, groups_row, part_some, let_head_row, positive, chain_in, binder_some, part_positive, group_few, left_few, groups_room, none_row, no_true, head_asked, argument_below, spine_head, spine_argument, spine_whole}
 use Rattle.binders.proofs.NamingLaws.{some_binder}
 use Rattle.binders.proofs.LoopLaws.{pushing_start, pushing_row, pushing_fits, pushing_next, pushing_falls, pushing_done}
 use Rattle.pool.specs.Unfold.{expr_at}
@@ -28,11 +28,11 @@ use Rattle.pretty_printer.proofs.exprs.+exprs.Goals as goal
 
 pub pp_app-pp_bvar-o-requires : goal.pp_app-pp_bvar-o-requires
 pp_app-pp_bvar-o-requires t c =
-    let below = argument-below c.requires.0 c.spine_of-spine.ensures (c.loop-left.left - 1) _ (omega (arith, c.loop-left.invariant.1, c.loop-left-test.true)) refl in (
+    let below = argument_below c.requires.0 c.spine_of-spine.ensures (c.loop-left.left - 1) _ (omega (arith, c.loop-left.invariant.1, c.loop-left-test.true)) refl in (
       c.requires.0.pool,
       c.requires.0.held,
       c.requires.0.scope,
-      var_index (asked-below c.requires.0 _ below) _ (sym c.expr_kind-kind.ensures.0 ∙ c.if-kind-eq-EXPR_VAR.true) c.var_index-i.ensures.0,
+      var_index (asked_below c.requires.0 _ below) _ (sym c.expr_kind-kind.ensures.0 ∙ c.if-kind-eq-EXPR_VAR.true) c.var_index-i.ensures.0,
     )
 
 pub pp_app-loop-left-preserved : goal.pp_app-loop-left-preserved
@@ -40,7 +40,7 @@ pp_app-loop-left-preserved t c =
     let a = c.requires.0 in
     let sp = c.spine_of-spine.ensures in
     let few : c.loop-left.left - 1 < c.spine_of-spine.result.count = omega (arith, c.loop-left.invariant.1, c.loop-left-test.true) in
-    let below = argument-below a sp (c.loop-left.left - 1) _ few refl in
+    let below = argument_below a sp (c.loop-left.left - 1) _ few refl in
     let printed : state c.if-kind-eq-EXPR_VAR.rows c.if-kind-eq-EXPR_VAR.text c.if-kind-eq-EXPR_VAR.o
     ≡ emit (under 1024 (row_in (options_of c.args.p) (over c.args.bytes.now c.args.names.now c.args.words.now)
     c.args.k c.args.scope (get_or c.spine_of-spine.result.arguments (c.loop-left.left - 1) 0)))
@@ -48,10 +48,10 @@ pp_app-loop-left-preserved t c =
     elim c.if-kind-eq-EXPR_VAR.branch [
       | pp_app-then-kind-eq-EXPR_VAR w ↦ rw (w.rows-is, w.text-is, w.o-is)
           (w.pp_bvar-o.ensures
-          ∙ var-row (asked-below a _ below) _ _ 1024 _ (sym c.expr_kind-kind.ensures.0 ∙ w.if-kind-eq-EXPR_VAR.true) w.var_index-i.ensures.0 (omega arith))
+          ∙ var_row (asked_below a _ below) _ _ 1024 _ (sym c.expr_kind-kind.ensures.0 ∙ w.if-kind-eq-EXPR_VAR.true) w.var_index-i.ensures.0 (omega arith))
       | pp_app-else-kind-eq-EXPR_VAR+then-is_leaf-2 w ↦ rw (w.rows-is, w.text-is, w.o-is)
           (w.pp_leaf-o-then-is_leaf-2.ensures
-          ∙ leaf_row (asked-below a _ below) _ 1024 _
+          ∙ leaf_row (asked_below a _ below) _ 1024 _
           (ap leaf_kind (sym c.expr_kind-kind.ensures.0) ∙ sym w.is_leaf-else-kind-eq-EXPR_VAR.ensures ∙ w.if-is_leaf-2.true) (omega arith))
       | pp_app-else-kind-eq-EXPR_VAR+else-is_leaf-2 w ↦ rw (w.rows-is, w.text-is, w.o-is) w.pp_expr-o-else-is_leaf-2.ensures
     ] in (
@@ -86,12 +86,12 @@ pp_app-returns t c =
 
 pub pp_binders-returns-then-s-ne0 : goal.pp_binders-returns-then-s-ne0
 pp_binders-returns-then-s-ne0 t c =
-    sym (emit-stopped _ (state _ _ _) (ne_eqb _ 0 c.if-s-ne0.true))
+    sym (emit_stopped _ (state _ _ _) (ne_eqb _ 0 c.if-s-ne0.true))
 
 pub pp_binders-pp_expr-s-requires : goal.pp_binders-pp_expr-s-requires
 pp_binders-pp_expr-s-requires t c =
     let below = binder_type c.requires.0.asked _ c.requires.2 c.binder_type-x.ensures.0 in
-    (omega (arith, below), (asked-below c.requires.0.asked _ below, omega arith))
+    (omega (arith, below), (asked_below c.requires.0.asked _ below, omega arith))
 
 pub pp_binders-telescope-s-requires : goal.pp_binders-telescope-s-requires
 pp_binders-telescope-s-requires t c =
@@ -139,7 +139,7 @@ pp_binders-returns t c =
           (arrow_row c.requires.0.asked _ _ _ _ _ _ c.requires.2 w.if-arrow.true w.binder_type-x.ensures.0)
       | pp_binders-else-arrow w ↦ rw (w.rows-is, w.text-is, w.o-is, w.end_run-o.ensures, w.telescope-s.ensures, w.start_run-s.ensures)
           (run_row c.requires.0.asked _ _ _ _ _ _ w.if-arrow.false
-          (pis-row c.requires.0.asked (options_of c.args.p) _ _ c.requires.2 w.expr_kind-pis.ensures.0 refl))
+          (pis_row c.requires.0.asked (options_of c.args.p) _ _ c.requires.2 w.expr_kind-pis.ensures.0 refl))
     ] in
     let next = c.args.m + c.part_end-end.result.count in
     let tailed : state c.if-is_binder.rows c.if-is_binder.text c.if-is_binder.o
@@ -199,7 +199,7 @@ pp_chain-returns t c =
     _ _ _ _ _ _ c.loop-kind.invariant (sym c.is_binder.ensures ∙ c.loop-kind-test.false)))
 
 pub pp_expr-returns-then-s-ne0 : goal.pp_expr-returns-then-s-ne0
-pp_expr-returns-then-s-ne0 t c = sym (emit-stopped _ (state _ _ _) (ne_eqb _ 0 c.if-s-ne0.true))
+pp_expr-returns-then-s-ne0 t c = sym (emit_stopped _ (state _ _ _) (ne_eqb _ 0 c.if-s-ne0.true))
 
 pub pp_expr-pp_bvar-requires : goal.pp_expr-pp_bvar-requires
 pp_expr-pp_bvar-requires t c = (
@@ -212,21 +212,21 @@ pp_expr-pp_bvar-requires t c = (
 
 pub pp_expr-returns-then-kind-eq-EXPR_VAR : goal.pp_expr-returns-then-kind-eq-EXPR_VAR
 pp_expr-returns-then-kind-eq-EXPR_VAR t c =
-    c.pp_bvar.ensures ∙ var-row c.requires.0 _ _ _ _ (sym c.expr_kind-kind.ensures.0 ∙ c.if-kind-eq-EXPR_VAR.true) c.var_index-index.ensures.0 c.requires.1
+    c.pp_bvar.ensures ∙ var_row c.requires.0 _ _ _ _ (sym c.expr_kind-kind.ensures.0 ∙ c.if-kind-eq-EXPR_VAR.true) c.var_index-index.ensures.0 c.requires.1
 
 pub pp_expr-pp_expr-s-requires : goal.pp_expr-pp_expr-s-requires
 pp_expr-pp_expr-s-requires t c =
-    let below = proj-rows c.requires.0 _ (sym c.expr_kind-kind.ensures.0 ∙ c.if-kind-eq-EXPR_PROJ.true) c.proj_structure-x.ensures.0 in
-    (omega (arith, below), (asked-below c.requires.0 _ below, omega arith))
+    let below = proj_rows c.requires.0 _ (sym c.expr_kind-kind.ensures.0 ∙ c.if-kind-eq-EXPR_PROJ.true) c.proj_structure-x.ensures.0 in
+    (omega (arith, below), (asked_below c.requires.0 _ below, omega arith))
 
 pub pp_expr-end_proj-requires : goal.pp_expr-end_proj-requires
 pp_expr-end_proj-requires t c =
-    proj-field c.requires.0 _ (sym c.expr_kind-kind.ensures.0 ∙ c.if-kind-eq-EXPR_PROJ.true) c.proj_index.ensures.0
+    proj_field c.requires.0 _ (sym c.expr_kind-kind.ensures.0 ∙ c.if-kind-eq-EXPR_PROJ.true) c.proj_index.ensures.0
 
 pub pp_expr-returns-then-kind-eq-EXPR_PROJ : goal.pp_expr-returns-then-kind-eq-EXPR_PROJ
 pp_expr-returns-then-kind-eq-EXPR_PROJ t c =
     let kind = sym c.expr_kind-kind.ensures.0 ∙ c.if-kind-eq-EXPR_PROJ.true in
-    rw (c.end_proj.ensures, c.pp_expr-s.ensures) (proj-row c.requires.0 _ _ _ _ kind c.proj_structure-x.ensures.0 c.proj_index.ensures.0)
+    rw (c.end_proj.ensures, c.pp_expr-s.ensures) (proj_row c.requires.0 _ _ _ _ kind c.proj_structure-x.ensures.0 c.proj_index.ensures.0)
     ∙ proj_level c.requires.0 _ _ _ kind c.requires.1
 
 pub pp_expr-pp_leaf-requires : goal.pp_expr-pp_leaf-requires
@@ -281,7 +281,7 @@ pp_let_body-pp_expr-requires t c =
     let below = let_inside c.requires.0 _ c.requires.1 c.let_body-body.ensures.0 in (
       omega (arith, below),
       (
-        asked-inside c.requires.0 _ _ _ c.requires.1 c.let_body-body.ensures.0 c.let_name.ensures.0 (omega
+        asked_inside c.requires.0 _ _ _ c.requires.1 c.let_body-body.ensures.0 c.let_name.ensures.0 (omega
             (arith, fits)) refl,
         omega arith,
       ),
@@ -301,12 +301,12 @@ pp_let_head-pp_name_safe-s-requires t c =
 pub pp_let_head-pp_expr-s-requires : goal.pp_let_head-pp_expr-s-requires
 pp_let_head-pp_expr-s-requires t c =
     let below = let_type c.requires.0 _ c.requires.1 c.let_type-type_row.ensures.0 in
-    (omega (arith, below), (asked-below c.requires.0 _ below, omega arith))
+    (omega (arith, below), (asked_below c.requires.0 _ below, omega arith))
 
 pub pp_let_head-pp_expr-s-requires-2 : goal.pp_let_head-pp_expr-s-requires-2
 pp_let_head-pp_expr-s-requires-2 t c =
     let below = let_value c.requires.0 _ c.requires.1 c.let_value-value.ensures.0 in
-    (omega (arith, below), (asked-below c.requires.0 _ below, omega arith))
+    (omega (arith, below), (asked_below c.requires.0 _ below, omega arith))
 
 pub pp_let_head-returns : goal.pp_let_head-returns
 pp_let_head-returns t c =
@@ -333,7 +333,7 @@ telescope-open_group-s-requires t c =
 
 pub telescope-pp_names-s-requires : goal.telescope-pp_names-s-requires
 telescope-pp_names-s-requires t c =
-    let few = group-few _ _ _ _ _ c.group_end-end.ensures (positive _ c.if-n-eq0.false) in
+    let few = group_few _ _ _ _ _ c.group_end-end.ensures (positive _ c.if-n-eq0.false) in
     (c.requires.0.asked.pool, c.requires.0.asked.row, few.0, omega (arith, few.1, c.requires.1))
 
 pub telescope-pp_leaf-o-requires : goal.telescope-pp_leaf-o-requires
@@ -341,7 +341,7 @@ telescope-pp_leaf-o-requires t c =
     let b = some_binder _ c.requires.0.asked.pool.ready.sound _ c.requires.0.asked.row _ (positive _ c.if-n-eq0.false) c.requires.1 in
     let below = binder_type c.requires.0.asked _ b c.binder_type-its_type.ensures.0 in (
       c.requires.0.asked.pool,
-      (asked-below c.requires.0.asked _ below).row,
+      (asked_below c.requires.0.asked _ below).row,
       ap leaf_kind (sym c.expr_kind-kind.ensures.0) ∙ sym c.is_leaf.ensures ∙ c.if-is_leaf.true,
     )
 
@@ -351,7 +351,7 @@ telescope-pp_chain-o-requires t c =
     let below = binder_type c.requires.0.asked _ b c.binder_type-its_type.ensures.0 in (
       omega (arith, below),
       (
-        asked-below c.requires.0.asked _ below,
+        asked_below c.requires.0.asked _ below,
         omega arith,
         ap binder_kind (sym c.expr_kind-kind.ensures.0) ∙ sym c.is_binder.ensures ∙ c.if-is_binder.true,
       ),
@@ -361,7 +361,7 @@ pub telescope-pp_expr-o-requires : goal.telescope-pp_expr-o-requires
 telescope-pp_expr-o-requires t c =
     let b = some_binder _ c.requires.0.asked.pool.ready.sound _ c.requires.0.asked.row _ (positive _ c.if-n-eq0.false) c.requires.1 in
     let below = binder_type c.requires.0.asked _ b c.binder_type-its_type.ensures.0 in
-    (omega (arith, below), (asked-below c.requires.0.asked _ below, omega arith))
+    (omega (arith, below), (asked_below c.requires.0.asked _ below, omega arith))
 
 pub telescope-close_group-s-requires : goal.telescope-close_group-s-requires
 telescope-close_group-s-requires t c =
@@ -370,7 +370,7 @@ telescope-close_group-s-requires t c =
 
 pub telescope-overflow_sub-n : goal.telescope-overflow_sub-n
 telescope-overflow_sub-n t c =
-    let few = group-few _ _ _ _ _ c.group_end-end.ensures (positive _ c.if-n-eq0.false) in omega (arith, few.1)
+    let few = group_few _ _ _ _ _ c.group_end-end.ensures (positive _ c.if-n-eq0.false) in omega (arith, few.1)
 
 pub telescope-returns-then-n-eq0-2 : goal.telescope-returns-then-n-eq0-2
 telescope-returns-then-n-eq0-2 t c =
@@ -383,30 +383,30 @@ telescope-returns-then-n-eq0-2 t c =
     elim c.if-is_leaf.branch [
       | telescope-then-is_leaf w ↦ rw (w.rows-is, w.text-is, w.o-is)
           (w.pp_leaf-o.ensures
-          ∙ leaf_row (asked-below c.requires.0.asked _ below) _ 1 _
+          ∙ leaf_row (asked_below c.requires.0.asked _ below) _ 1 _
           (ap leaf_kind (sym c.expr_kind-kind.ensures.0) ∙ sym c.is_leaf.ensures ∙ w.if-is_leaf.true) (omega arith))
       | telescope-else-is_leaf+then-is_binder w ↦ rw (w.rows-is, w.text-is, w.o-is) w.pp_chain-o.ensures
       | telescope-else-is_leaf+else-is_binder w ↦ rw (w.rows-is, w.text-is, w.o-is) w.pp_expr-o.ensures
     ] in
     rw (c.close_group-s.ensures, typed, c.put_colon-s.ensures, c.pp_names-s.ensures, c.open_group-s.ensures)
     (none_row _ pool c.args.k false (c.args.m + c.group_end-end.result.count) (c.args.m + c.group_end-end.result.count) _ _ _ c.if-n-eq0-2.true (λ e. no_true e)
-    ∙ (groups-row c.requires.0 b _ _ _ _ _ _ _ _ _ _ (positive _ c.if-n-eq0.false) c.requires.1 c.group_end-end.ensures refl
+    ∙ (groups_row c.requires.0 b _ _ _ _ _ _ _ _ _ _ (positive _ c.if-n-eq0.false) c.requires.1 c.group_end-end.ensures refl
     refl c.binder_style-style.ensures.0 c.binder_type-its_type.ensures.0))
 
 pub telescope-overflow_add-m : goal.telescope-overflow_add-m
 telescope-overflow_add-m t c =
     let b = some_binder _ c.requires.0.asked.pool.ready.sound _ c.requires.0.asked.row _ (positive _ c.if-n-eq0.false) c.requires.1 in
-    omega (arith, groups-room c.requires.0 b _ _ _ c.group_end-end.ensures (positive _ c.if-n-eq0.false) c.requires.1, c.requires.0.asked.held.linked.small)
+    omega (arith, groups_room c.requires.0 b _ _ _ c.group_end-end.ensures (positive _ c.if-n-eq0.false) c.requires.1, c.requires.0.asked.held.linked.small)
 
 pub telescope-telescope-requires : goal.telescope-telescope-requires
 telescope-telescope-requires t c =
     let b = some_binder _ c.requires.0.asked.pool.ready.sound _ c.requires.0.asked.row _ (positive _ c.if-n-eq0.false) c.requires.1 in
-    let few = group-few _ _ _ _ _ c.group_end-end.ensures (positive _ c.if-n-eq0.false) in (
+    let few = group_few _ _ _ _ _ c.group_end-end.ensures (positive _ c.if-n-eq0.false) in (
       omega (arith, c.group_end-end.ensures.low, few.0),
       (
         chain_later c.requires.0 b _ _ _ few.0 (omega (arith, few.1, c.requires.1)) c.group_end-end.ensures.tree
             (omega (arith, c.group_end-end.ensures.low, few.0)) refl,
-        left-few _ c.args.k _ _ _ _ c.group_end-end.ensures (positive _ c.if-n-eq0.false) c.requires.1,
+        left_few _ c.args.k _ _ _ _ c.group_end-end.ensures (positive _ c.if-n-eq0.false) c.requires.1,
         λ e. no_true e,
       ),
     )
@@ -422,11 +422,11 @@ telescope-returns t c =
     elim c.if-is_leaf.branch [
       | telescope-then-is_leaf w ↦ rw (w.rows-is, w.text-is, w.o-is)
           (w.pp_leaf-o.ensures
-          ∙ leaf_row (asked-below c.requires.0.asked _ below) _ 1 _
+          ∙ leaf_row (asked_below c.requires.0.asked _ below) _ 1 _
           (ap leaf_kind (sym c.expr_kind-kind.ensures.0) ∙ sym c.is_leaf.ensures ∙ w.if-is_leaf.true) (omega arith))
       | telescope-else-is_leaf+then-is_binder w ↦ rw (w.rows-is, w.text-is, w.o-is) w.pp_chain-o.ensures
       | telescope-else-is_leaf+else-is_binder w ↦ rw (w.rows-is, w.text-is, w.o-is) w.pp_expr-o.ensures
     ] in
     rw (c.telescope.ensures, c.close_group-s.ensures, typed, c.put_colon-s.ensures, c.pp_names-s.ensures, c.open_group-s.ensures)
-    (groups-row c.requires.0 b _ _ _ _ _ _ _ _ _ _ (positive _ c.if-n-eq0.false) c.requires.1 c.group_end-end.ensures refl
+    (groups_row c.requires.0 b _ _ _ _ _ _ _ _ _ _ (positive _ c.if-n-eq0.false) c.requires.1 c.group_end-end.ensures refl
     refl c.binder_style-style.ensures.0 c.binder_type-its_type.ensures.0)
