@@ -53,7 +53,7 @@ print%d = refl
        quoted(p.listing), n)
 
 
-CASES = {7: "Names %d", 8: "Document %d", 20: "RowArea %d", 21: "TextArea %d", 22: "Listing"}
+CASES = {7: "(Names %d)", 8: "(Document %d)", 20: "(RowArea %d)", 21: "(TextArea %d)", 22: "Listing"}
 
 
 def short_lengths(p):
@@ -73,7 +73,7 @@ def short_term(n, r, p, lengths):
     return """-- %s %d, indent %d, width %d: refused %d at %d
 pub refusal%d :
     %s (%s) %d %d %d (filled %d %d %d)
-    ≡ left (%s) (%s) (%s) (%s)
+    ≡ left (Err %s) (%s) (%s) (%s)
 unfolding computing numbers source filled left
 refusal%d = refl
 """ % (("expression", "declaration")[p.mode], p.root, p.indent, p.width, a.number, a.place, n, ("print_expr", "print_declar")[p.mode],
@@ -82,7 +82,7 @@ refusal%d = refl
 
 
 HEADER = """-- %s, computed by the definitions. Written by differential/compute.py.
-use Rattle.std.specs.Prelude.{◌≡◌, refl}
+use Rattle.std.specs.Prelude.{%s}
 %suse Rattle.lister.specs.Prints.{%s}
 use Rattle.specimens.specs.Computing.{computing}
 use Rattle.computed.specs.Areas.{%s}
@@ -95,7 +95,7 @@ def write(name, title, first, areas, terms):
     text = "\n".join(terms)
     used = lambda names: ", ".join(n for n in names if re.search(r"\b%s\b" % n, text))
     with open(os.path.join(OUT, name + ".antt"), "w") as f:
-        f.write(HEADER % (title, first % used(("Names", "Document", "RowArea", "TextArea", "Listing")) if "%s" in first else first,
+        f.write(HEADER % (title, "◌≡◌, refl, Err" if "(Err " in text else "◌≡◌, refl", first % used(("Names", "Document", "RowArea", "TextArea", "Listing")) if "%s" in first else first,
                           used(("print_expr", "print_declar")), areas) + text)
 
 
@@ -103,7 +103,7 @@ def write_refusals(picked):
     """Eight kinds of short areas, each for a few of the smaller prints that are not trivial."""
     prints = [(r, p) for r, p in picked if 12 <= len(p.rows) <= 24 and len(r.words) <= 160][:3]
     terms = [short_term(n, r, p, lengths) for n, (r, p, lengths) in enumerate((r, p, lengths) for r, p in prints for lengths in short_lengths(p))]
-    write("Refusals", "Prints into short areas, as model.py has them", "use Rattle.lister.specs.declared.Answer.TheVariants.{%s}\n",
+    write("Refusals", "Prints into short areas, as model.py has them", "use Rattle.lister.specs.declared.error.PrintError.TheVariants.{%s}\n",
           "numbers, source, filled, left", terms)
     return len(terms)
 

@@ -1,5 +1,4 @@
-// What every layer uses: tests as values, and total operations on numbers.
+// What every layer uses: numbers as words.
 #![tactic(auto)]
 
-pub mod bools;
 pub mod numbers;

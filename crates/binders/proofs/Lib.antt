@@ -5,7 +5,7 @@ pub mod RunningLaws
 pub mod NamingLaws
 pub mod GroupingLaws
 pub mod LeafLaws
-pub mod LoopLaws
+pub mod PushLaws
 pub mod RenameLaws
 pub mod ScopeLaws
 pub mod DropLaws

@@ -2,12 +2,11 @@
 use Prim.Native.Nat.{ℕ, zero, suc, ◌+◌, ◌-◌, ◌<◌, ◌≤◌}
 use native.Mathlib.Omega.{arith}
 use native.Mathlib.Nat.{suc-add}
-use native.Mathlib.Decide.{dec_le, dec_lt}
+use borrow.Author.Count.{below_more}
 use mathlib.Core.List.{[]}
 use mathlib.Core.Path.{◌≡◌, refl, sym, ap, ap₂, ◌∙◌}
 use lib.ListN.{length, length-set}
 use lib.Seq.{get_or-set_same, get_or-set_other}
-use Rattle.document.specs.Sink.{State, emit}
 use Rattle.pool.specs.Tables.{Pool, N}
 use Rattle.pool.specs.Tree.{Expr, var, sort, const, app, pi, lam, letᵉ, proj, nat, str, lift}
 use Rattle.pool.specs.Unfold.{name_at}
@@ -17,7 +16,7 @@ use Rattle.names.specs.Names.{name_doc}
 use Rattle.binders.specs.Binders.{binders, chain_body, pushed}
 use Rattle.binders.specs.Variables.{var_doc}
 use Rattle.binders.specs.Rename.{up, rename}
-use Rattle.binders.specs.Scopes.{entry, names_below, names_of, outward, place_by, place_in, Linked, Held, Grown, Reached, push, scoped, last_scope, Chained}
+use Rattle.binders.specs.Scopes.{entry, names_below, names_of, outward, place_by, place_in, Linked, Held, Grown, push, scoped, last_scope, Chained}
 use Rattle.binders.proofs.RenameLaws.{rename_agrees, lift_adds, own_variable}
 
 -- how many names a chain puts on the stack
@@ -195,13 +194,6 @@ place_rises k w (suc h) (suc i) b =
 
 -- ---- one name more
 
-last_one : {i n : ℕ} → (i < n → ⊥) → i < n + 1 → i ≡ n
-last_one {i} {n} f b = by (dec_le n i)
-  where
-    by : Dec (n ≤ i) → i ≡ n
-    by (yes l) = omega arith
-    by (no m) = absurd (f (omega arith))
-
 module _ (k : Stack) (name link : ℕ) (linked : Linked k) (room : k.count < 1024) where
   pub push_last : entry (push k name link) k.count ≡ record { name = name; link = link }
   push_last = get_or-set_same k.entries k.count _ _ (omega (arith, linked.full))
@@ -213,24 +205,15 @@ module _ (k : Stack) (name link : ℕ) (linked : Linked k) (room : k.count < 102
   push_grown = record { more = omega arith; kept = push_other }
 
   pub push_linked : link ≤ k.count → Linked (push k name link)
-  push_linked h = record { full = length-set k.entries k.count _ ∙ linked.full; small = omega arith; below = λ i b. by i b (dec_lt i k.count) }
-    where
-      by : (i : ℕ) → i < k.count + 1 → Dec (i < k.count) → (entry (push k name link) i).link ≤ i
-      by i b (yes l) = rw (push_other i l) (linked.below i l)
-      by i b (no n) = at_last i (last_one n b)
-        where
-          at_last : (j : ℕ) → j ≡ k.count → (entry (push k name link) j).link ≤ j
-          at_last j e = rw (e, push_last) h
+  push_linked h = record {
+    full = length-set k.entries k.count _ ∙ linked.full;
+    small = omega arith;
+    below = below_more _ k.count (λ i l. rw (push_other i l) (linked.below i l)) (rw push_last h);
+  }
 
   pub push_named : (p : Pool) → Held p k → name < N p.names → link ≤ k.count → Held p (push k name link)
-  push_named p held n h = record { linked = push_linked h; named = λ i b. by i b (dec_lt i k.count) }
-    where
-      by : (i : ℕ) → i < k.count + 1 → Dec (i < k.count) → (entry (push k name link) i).name < N p.names
-      by i b (yes l) = rw (push_other i l) (held.named i l)
-      by i b (no m) = at_last i (last_one m b)
-        where
-          at_last : (j : ℕ) → j ≡ k.count → (entry (push k name link) j).name < N p.names
-          at_last j e = rw (e, push_last) n
+  push_named p held n h =
+      record { linked = push_linked h; named = below_more _ k.count (λ i l. rw (push_other i l) (held.named i l)) (rw push_last n) }
 
 pub grown_grown : {k l m : Stack} → Grown k l → Grown l m → Grown k m
 grown_grown {k} {l} {m} f g =
@@ -241,35 +224,34 @@ grown_self k = record { more = omega arith; kept = λ i h. refl }
 
 -- ---- a variable followed outward
 
--- one step of the search
-pub place_next : (k : Stack) (h i : ℕ) → (h ≡ 0 → ⊥) → 0 < i → place_in k h i ≡ place_in k (entry k (h - 1)).link (i - 1)
-place_next k zero i n b = absurd (n refl)
+-- one step
+pub place_next : (k : Stack) (h i : ℕ) → 0 < h → 0 < i → place_in k h i ≡ place_in k (entry k (h - 1)).link (i - 1)
+place_next k zero i n b = absurd (omega arith)
 place_next k (suc h) zero n b = absurd (omega arith)
 place_next k (suc h) (suc i) n b = place_out k h i ∙ ap₂ (λ (x y : ℕ). place_in k (entry k x).link y) (omega arith) (omega arith)
 
-pub link_within : (k : Stack) → Linked k → (h : ℕ) → (h ≡ 0 → ⊥) → h ≤ k.count → (entry k (h - 1)).link ≤ k.count
-link_within k w zero n b = absurd (n refl)
-link_within k w (suc h) n b =
-    let e : suc h - 1 ≡ h = omega arith in rw e (omega (arith, w.below h b))
+pub link_within : (k : Stack) → Linked k → (h : ℕ) → 0 < h → h ≤ k.count → (entry k (h - 1)).link ≤ k.count
+link_within k w h n b = omega (arith, w.below (h - 1) (omega arith))
 
--- what a variable prints, once its scope was reached
-pub prints_past : (p : Pool) (k : Stack) (h i scope left n : ℕ) (st : State) → Reached k h i scope left → scope ≡ 0 → n ≡ k.count + left →
-    emit (number_doc n) st ≡ emit (var_doc (names_of p k) (place_in k h i) (place_in k h i)) st
+-- the end: the index is reached, or the names end
+pub place_at : (k : Stack) (h : ℕ) → 0 < h → place_in k h 0 ≡ k.count - h
+place_at k zero n = absurd (omega arith)
+place_at k (suc h) n = place_here k h
+
+pub place_out_of : (k : Stack) (h i : ℕ) → h ≡ 0 → place_in k h i ≡ k.count + i
+place_out_of k h i z = ap (λ (x : ℕ). place_in k x i) z ∙ place_past k i
+
+pub names_past : (p : Pool) (k : Stack) (place index : ℕ) → k.count ≤ place → var_doc (names_of p k) place index ≡ number_doc index
 unfolding names_of
-prints_past p k h i scope left n st r z e =
-    let place : place_in k h i ≡ k.count + left = r.place ∙ ap (λ (x : ℕ). place_in k x left) z ∙ place_past k left in
-    rw (place, past_names p k k.count left (k.count + left), e)
+names_past p k place index b =
+    let e : place ≡ k.count + (place - k.count) = omega arith in
+    ap (λ (x : ℕ). var_doc (names_below p k k.count) x index) e ∙ past_names p k k.count (place - k.count) index
 
-pub prints_name : (p : Pool) (k : Stack) (h i scope left : ℕ) (st : State) → Reached k h i scope left → (scope ≡ 0 → ⊥) →
-    emit (name_doc (name_at p (entry k (scope - 1)).name)) st ≡ emit (var_doc (names_of p k) (place_in k h i) (place_in k h i)) st
+pub name_among : (p : Pool) (k : Stack) (h index : ℕ) → 0 < h → h ≤ k.count →
+    var_doc (names_of p k) (k.count - h) index ≡ name_doc (name_at p (entry k (h - 1)).name)
 unfolding names_of
-prints_name p k h i zero left st r n = absurd (n refl)
-prints_name p k h i (suc scope) left st r n =
-    let none : left ≡ 0 = r.ended n in
-    let place : place_in k h i ≡ k.count - suc scope = r.place ∙ ap (place_in k (suc scope)) none ∙ place_here k scope in
-    let back : suc scope - 1 ≡ scope = omega arith in
-    rw (back, place, among_names p k k.count scope (k.count - suc scope) r.within)
+name_among p k zero index n b = absurd (omega arith)
+name_among p k (suc h) index n b =
+    let e : suc h - 1 ≡ h = omega arith in rw e (among_names p k k.count h index b)
 
-pub entry_named : (p : Pool) (k : Stack) → Held p k → (scope : ℕ) → (scope ≡ 0 → ⊥) → scope ≤ k.count → (entry k (scope - 1)).name < N p.names
-entry_named p k held zero n b = absurd (n refl)
-entry_named p k held (suc scope) n b = let e : suc scope - 1 ≡ scope = omega arith in rw e (held.named scope b)
+pub ruleset places = (place_next, link_within, place_at, place_out_of, names_past, name_among)

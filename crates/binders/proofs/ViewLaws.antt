@@ -3,7 +3,7 @@ use Prim.Native.Nat.{ℕ, zero, suc, ◌<◌, ◌≤◌}
 use native.Mathlib.Omega.{arith}
 use mathlib.Core.Bool.{Bool, true, false, ◌||◌, cond}
 use mathlib.Core.List.{[], ◌∷◌}
-use mathlib.Core.Path.{◌≡◌, refl, sym}
+use mathlib.Core.Path.{◌≡◌, refl, ap, ◌∙◌}
 use lib.Dec.{eqb}
 use borrow.Author.Tests.{eqb-true}
 use Rattle.pool.specs.Tables.{Pool, N, E, expr_word}
@@ -11,7 +11,6 @@ use Rattle.pool.specs.Tree.{Name, Expr, var, sort, const, app, pi, lam, letᵉ, 
 use Rattle.pool.specs.Unfold.{name_at, expr_at}
 use Rattle.pool.specs.Sound.{Sound}
 use Rattle.pool.proofs.ExprUnfolds.{kind_small, var_at, sort_at, const_at, app_at, pi_at, lam_at, let_at, proj_at, nat_at, str_at, pi_ok, lam_ok}
-use Rattle.basics.proofs.Booleans.{true-false}
 use Rattle.binders.specs.declared.stack.Stack.{Stack}
 use Rattle.binders.specs.Binders.{chain_body, is_arrow, is_named_pi}
 use Rattle.binders.specs.Rename.{rename}
@@ -87,8 +86,8 @@ length_none (var i) h₀ = refl
 length_none (sort l) h₀ = refl
 length_none (const n ls) h₀ = refl
 length_none (app f a) h₀ = refl
-length_none (pi p n s t b) h₀ = true-false h₀
-length_none (lam p n s t b) h₀ = true-false h₀
+length_none (pi p n s t b) h₀ = cc
+length_none (lam p n s t b) h₀ = cc
 length_none (letᵉ p n t v b d) h₀ = refl
 length_none (proj n i e) h₀ = refl
 length_none (nat s) h₀ = refl
@@ -100,8 +99,8 @@ body_none (var i) h₀ = refl
 body_none (sort l) h₀ = refl
 body_none (const n ls) h₀ = refl
 body_none (app f a) h₀ = refl
-body_none (pi p n s t b) h₀ = true-false h₀
-body_none (lam p n s t b) h₀ = true-false h₀
+body_none (pi p n s t b) h₀ = cc
+body_none (lam p n s t b) h₀ = cc
 body_none (letᵉ p n t v b d) h₀ = refl
 body_none (proj n i e) h₀ = refl
 body_none (nat s) h₀ = refl
@@ -113,8 +112,8 @@ scope_none h m (var i) h₀ = refl
 scope_none h m (sort l) h₀ = refl
 scope_none h m (const n ls) h₀ = refl
 scope_none h m (app f a) h₀ = refl
-scope_none h m (pi p n s t b) h₀ = true-false h₀
-scope_none h m (lam p n s t b) h₀ = true-false h₀
+scope_none h m (pi p n s t b) h₀ = cc
+scope_none h m (lam p n s t b) h₀ = cc
 scope_none h m (letᵉ p n t v b d) h₀ = refl
 scope_none h m (proj n i e) h₀ = refl
 scope_none h m (nat s) h₀ = refl
@@ -126,8 +125,8 @@ scoped_none k h m (var i) h₀ = refl
 scoped_none k h m (sort l) h₀ = refl
 scoped_none k h m (const n ls) h₀ = refl
 scoped_none k h m (app f a) h₀ = refl
-scoped_none k h m (pi p n s t b) h₀ = true-false h₀
-scoped_none k h m (lam p n s t b) h₀ = true-false h₀
+scoped_none k h m (pi p n s t b) h₀ = cc
+scoped_none k h m (lam p n s t b) h₀ = cc
 scoped_none k h m (letᵉ p n t v b d) h₀ = refl
 scoped_none k h m (proj n i e) h₀ = refl
 scoped_none k h m (nat s) h₀ = refl
@@ -139,8 +138,8 @@ run_none c (var i) h₀ = refl
 run_none c (sort l) h₀ = refl
 run_none c (const n ls) h₀ = refl
 run_none c (app f a) h₀ = refl
-run_none c (pi p n s t b) h₀ = true-false h₀
-run_none c (lam p n s t b) h₀ = true-false h₀
+run_none c (pi p n s t b) h₀ = cc
+run_none c (lam p n s t b) h₀ = cc
 run_none c (letᵉ p n t v b d) h₀ = refl
 run_none c (proj n i e) h₀ = refl
 run_none c (nat s) h₀ = refl
@@ -166,8 +165,8 @@ drop_none m (var i) h₀ = refl
 drop_none m (sort l) h₀ = refl
 drop_none m (const n ls) h₀ = refl
 drop_none m (app f a) h₀ = refl
-drop_none m (pi p n s t b) h₀ = true-false h₀
-drop_none m (lam p n s t b) h₀ = true-false h₀
+drop_none m (pi p n s t b) h₀ = cc
+drop_none m (lam p n s t b) h₀ = cc
 drop_none m (letᵉ p n t v b d) h₀ = refl
 drop_none m (proj n i e) h₀ = refl
 drop_none m (nat s) h₀ = refl
@@ -179,8 +178,8 @@ chained_none p₀ k h m (var i) h₀ c = c
 chained_none p₀ k h m (sort l) h₀ c = c
 chained_none p₀ k h m (const n ls) h₀ c = c
 chained_none p₀ k h m (app f a) h₀ c = c
-chained_none p₀ k h m (pi p n s t b) h₀ c = true-false h₀
-chained_none p₀ k h m (lam p n s t b) h₀ c = true-false h₀
+chained_none p₀ k h m (pi p n s t b) h₀ c = cc
+chained_none p₀ k h m (lam p n s t b) h₀ c = cc
 chained_none p₀ k h m (letᵉ p n t v b d) h₀ c = c
 chained_none p₀ k h m (proj n i e) h₀ c = c
 chained_none p₀ k h m (nat s) h₀ c = c
@@ -189,16 +188,16 @@ chained_none p₀ k h m (str s) h₀ c = c
 -- a binder that is no arrow starts a run
 pub run_starts : (e : Expr) → is_binder e ≡ true → is_arrow (first_binder e) ≡ false → 1 ≤ run_length (first_binder e).is_pi e
 unfolding is_binder first_binder run_length in_run is_named_pi
-run_starts (var i) h₀ a₀ = true-false (sym h₀)
-run_starts (sort l) h₀ a₀ = true-false (sym h₀)
-run_starts (const n ls) h₀ a₀ = true-false (sym h₀)
-run_starts (app f a) h₀ a₀ = true-false (sym h₀)
+run_starts (var i) h₀ a₀ = cc
+run_starts (sort l) h₀ a₀ = cc
+run_starts (const n ls) h₀ a₀ = cc
+run_starts (app f a) h₀ a₀ = cc
 run_starts (pi p n s t b) h₀ a₀ = rw a₀ (omega arith)
 run_starts (lam p n s t b) h₀ a₀ = omega arith
-run_starts (letᵉ p n t v b d) h₀ a₀ = true-false (sym h₀)
-run_starts (proj n i e) h₀ a₀ = true-false (sym h₀)
-run_starts (nat s) h₀ a₀ = true-false (sym h₀)
-run_starts (str s) h₀ a₀ = true-false (sym h₀)
+run_starts (letᵉ p n t v b d) h₀ a₀ = cc
+run_starts (proj n i e) h₀ a₀ = cc
+run_starts (nat s) h₀ a₀ = cc
+run_starts (str s) h₀ a₀ = cc
 
 -- ---- rows
 
@@ -226,10 +225,17 @@ module _ (p : Pool) (sound : Sound p) (r : ℕ) (h : r < E p.words) where
   -- the row of a binder
   pub record BinderRow : Type 0 where
     pub made : expr_at p r ≡ mk_binder (eqb (w 0) 4) r (name_at p (w 1)) (w 2) (expr_at p (w 3)) (expr_at p (w 4))
+    pub first : first_binder (expr_at p r)
+        ≡ record { is_pi = eqb (w 0) 4; used = occurs 0 (expr_at p (w 4)); name = name_at p (w 1); style = w 2; type = expr_at p (w 3); place = r }
     pub name : w 1 < N p.names
     pub style : w 2 < 4
     pub type : w 3 < r
     pub body : w 4 < r
+
+  first_from : expr_at p r ≡ mk_binder (eqb (w 0) 4) r (name_at p (w 1)) (w 2) (expr_at p (w 3)) (expr_at p (w 4)) →
+      first_binder (expr_at p r)
+      ≡ record { is_pi = eqb (w 0) 4; used = occurs 0 (expr_at p (w 4)); name = name_at p (w 1); style = w 2; type = expr_at p (w 3); place = r }
+  first_from made = ap first_binder made ∙ first_made (eqb (w 0) 4) r (name_at p (w 1)) (w 2) (expr_at p (w 3)) (expr_at p (w 4))
 
   pub binder_at : binder_kind (w 0) ≡ true → BinderRow
   unfolding binder_kind mk_binder
@@ -239,9 +245,11 @@ module _ (p : Pool) (sound : Sound p) (r : ℕ) (h : r < E p.words) where
       by true y f g _ =
           let e4 : w 0 ≡ 4 = eqb-true (w 0) 4 f in
           let ok = pi_ok p sound r h e4 in
-          record { made = rw f (pi_at p sound r h e4); name = ok.0; style = ok.1; type = ok.2; body = ok.3 }
+          let made : expr_at p r ≡ mk_binder (eqb (w 0) 4) r (name_at p (w 1)) (w 2) (expr_at p (w 3)) (expr_at p (w 4)) = rw f (pi_at p sound r h e4) in
+          record { made = made; first = first_from made; name = ok.0; style = ok.1; type = ok.2; body = ok.3 }
       by false true f g _ =
           let e5 : w 0 ≡ 5 = eqb-true (w 0) 5 g in
           let ok = lam_ok p sound r h e5 in
-          record { made = rw f (lam_at p sound r h e5); name = ok.0; style = ok.1; type = ok.2; body = ok.3 }
-      by false false f g z = true-false (sym z)
+          let made : expr_at p r ≡ mk_binder (eqb (w 0) 4) r (name_at p (w 1)) (w 2) (expr_at p (w 3)) (expr_at p (w 4)) = rw f (lam_at p sound r h e5) in
+          record { made = made; first = first_from made; name = ok.0; style = ok.1; type = ok.2; body = ok.3 }
+      by false false f g z = cc

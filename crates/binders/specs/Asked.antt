@@ -1,26 +1,17 @@
 -- What the printers ask: of the pool, of the stack and the scope, and of the row.
-use Rattle.std.specs.Prelude.{ℕ, suc, ◌+◌, ◌-◌, ◌<◌, ◌≤◌, List, ◌≡◌, Bool}
-use Rattle.pool.specs.declared.tables.Tables.{Tables}
-use Rattle.pool.specs.Tables.{Pool, N, E}
+use Rattle.std.specs.Prelude.{ℕ, suc, ◌+◌, ◌-◌, ◌<◌, ◌≤◌, ◌≡◌, Bool}
+use Rattle.pool.specs.Tables.{Pool, E}
 use Rattle.pool.specs.Tree.{Expr}
 use Rattle.pool.specs.Unfold.{expr_at}
 use Rattle.binders.specs.Steps.{first_binder, run_length, part_length, group_length, drop_chain}
-use Rattle.pool.specs.Areas.{over}
-use Rattle.pool.specs.Ready.{Ready}
 use Rattle.binders.specs.declared.stack.Stack.{Stack}
 use Rattle.binders.specs.Scopes.{Held, Grown, Chained}
 
--- a sound pool with its tables; a name's row fits 16 bits
-pub record Pooled (bs ns ws : List ℕ) (t : Tables) : Type 0 where
-  pub ready : Ready bs ns ws t
-  pub few : N ns ≤ 65536
-
 -- a row to be printed in a scope
-pub record Asked (bs ns ws : List ℕ) (t : Tables) (k : Stack) (h r : ℕ) : Type 0 where
-  pub pool : Pooled bs ns ws t
-  pub held : Held (over bs ns ws) k
+pub record Asked (p : Pool) (k : Stack) (h r : ℕ) : Type 0 where
+  pub held : Held p k
   pub scope : h ≤ k.count
-  pub row : r < E ws
+  pub row : r < E p.words
 
 -- a chain's names were put on the stack k, in the scope h
 pub record ChainPushed (p : Pool) (k : Stack) (h : ℕ) (e : Expr) (l : Stack) : Type 0 where
@@ -43,9 +34,9 @@ pub record GroupEnd (p : Pool) (n r row count : ℕ) : Type 0 where
   pub low : row + count ≤ r
 
 -- a part of a chain to be printed: the stack ends with the names of its binders, the first one's entry being m
-pub record InChain (bs ns ws : List ℕ) (t : Tables) (k : Stack) (h m r : ℕ) : Type 0 where
-  pub asked : Asked bs ns ws t k h r
-  pub chained : Chained (over bs ns ws) k h m (expr_at (over bs ns ws) r)
+pub record InChain (p : Pool) (k : Stack) (h m r : ℕ) : Type 0 where
+  pub asked : Asked p k h r
+  pub chained : Chained p k h m (expr_at p r)
 
 -- where an arrow binder, or the run of others that row r starts, ends: before a row, after so many binders
 pub record PartEnd (p : Pool) (arrow : Bool) (r row count : ℕ) : Type 0 where

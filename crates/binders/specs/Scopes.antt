@@ -57,13 +57,6 @@ pub record Grown (k l : Stack) : Type 0 where
   pub more : k.count ≤ l.count
   pub kept : (i : ℕ) → i < k.count → entry l i ≡ entry k i
 
--- a variable's scope and index, followed outward: the place is the same, and the end of the names or of the index is reached
-pub record Reached (k : Stack) (h i scope left : ℕ) : Type 0 where
-  pub place : place_in k h i ≡ place_in k scope left
-  pub within : scope ≤ k.count
-  pub fewer : left ≤ i
-  pub ended : (scope ≡ 0 → ⊥) → left ≡ 0
-
 -- The binders of a chain whose names are on the stack: the first one's entry is m, and its type is in the scope h.
 unfoldable pub scoped : Stack → ℕ → ℕ → Expr → List Binder
 scoped k h m (var i) = []

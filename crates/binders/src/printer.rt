@@ -1,9 +1,13 @@
 // What goes to every printer of expressions.
-use pool::tables::Tables;
+ghost use Rattle.std.specs.Prelude.{◌≤◌};
+ghost use Rattle.pool.specs.Tables.{N};
 
-// Where the pool's tables stand, and the indent of a nest.
+use pool::checked::CheckedPool;
+
+// A pool that was checked, each of whose name rows fits 16 bits, and the indent of a nest.
 #[derive(Clone, Copy)]
-pub struct Printer {
-    pub tables: Tables,
+pub struct Printer<'a> {
+    pub pool: CheckedPool<'a>,
     pub indent: u32,
+    ghost few: { N pool.names.words.now ≤ 65536 },
 }

@@ -1,15 +1,15 @@
 // Applications: the arguments and the head.
 ghost use Rattle.std.specs.Prelude.{◌≡◌, ◌<◌};
 ghost use Rattle.pool.specs.Tables.{E};
-ghost use Rattle.pool.specs.Areas.{lent};
-ghost use Rattle.binders.specs.Asked.{Pooled};
+ghost use Rattle.binders.specs.Options.{pool_of};
 ghost use Rattle.binders.specs.Spines.{SpineOf};
 
-use pool::fields::{app_argument, app_function, expr_kind};
+use crate::printer::Printer;
+use pool::fields::{APP_ARGUMENT, APP_FUNCTION, EXPR_KIND};
 use pool::kinds::EXPR_APP;
-use pool::tables::Tables;
 
-// The rows of an application's arguments, the last one first, and of its head.
+// The rows of an application's arguments, the last one first, and of its head. The arguments are the first `count` of an array, whose size is
+// fixed, as nothing here is allocated.
 #[derive(Clone, Copy)]
 pub struct Spine {
     pub arguments: [u32; 256],
@@ -18,20 +18,21 @@ pub struct Spine {
 }
 
 // The spine of row r: a tree is at most 256 deep, so its arguments have room.
-pub fn spine_of(bytes: &[u8], names: &[u32], words: &[u32], t: Tables, r: usize) -> Spine
-    requires { (Pooled bytes.now names.now words.now t) × (r < E words.now) }
-    ensures { SpineOf (lent bytes names words) r result.arguments result.count result.head }
+#[tactic(auto, using(crate::proofs::SpineLaws::app_rows))]
+pub fn spine_of(p: &Printer<'_>, r: usize) -> Spine
+    requires { r < E (pool_of p.now).words }
+    ensures { SpineOf (pool_of p.now) r result.arguments result.count result.head }
 {
     let mut arguments = [0u32; 256];
     let mut at = r;
-    let mut n: usize = 0;
-    while expr_kind(words, t, at) == EXPR_APP {
-        arguments[n] = app_argument(words, t, at) as u32;
-        n = n + 1;
-        at = app_function(words, t, at);
+    let mut n = 0;
+    while p.pool.words.expr(at, EXPR_KIND) == EXPR_APP {
+        arguments[n] = p.pool.words.expr(at, APP_ARGUMENT) as u32;
+        n += 1;
+        at = p.pool.words.expr(at, APP_FUNCTION);
     }
     Spine {
-        arguments: arguments,
+        arguments,
         count: n,
         head: at,
     }

@@ -1,6 +1,6 @@
 // The names in force.
-ghost use Rattle.std.specs.Prelude.{◌≡◌};
-ghost use Rattle.binders.specs.Scopes.{Linked};
+ghost use Rattle.std.specs.Prelude.{◌≡◌, ◌<◌};
+ghost use Rattle.binders.specs.Scopes.{Linked, push};
 
 // A name of the stack: its row, and the scope that was in force before it. A scope is 0, or one more than the place of its last name.
 #[derive(Clone, Copy)]
@@ -9,7 +9,7 @@ pub struct Entry {
     pub link: u16,
 }
 
-// The stack of names, passed by value.
+// The stack of names. Its room is fixed, as nothing here is allocated.
 #[derive(Clone, Copy)]
 pub struct Stack {
     pub entries: [Entry; 1024],
@@ -25,5 +25,18 @@ impl Stack {
             entries: [none; 1024],
             count: 0,
         }
+    }
+
+    // One name more, in a scope.
+    pub fn push(&mut self, name: usize, scope: usize)
+        requires { (self.old.count < 1024) × (name < 65536) × (scope < 65536) }
+        ensures { self.new ≡ push self.old name scope }
+    {
+        let n = self.count;
+        self.entries[n] = Entry {
+            name: name as u16,
+            link: scope as u16,
+        };
+        self.count = n + 1;
     }
 }

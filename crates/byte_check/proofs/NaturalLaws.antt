@@ -15,7 +15,8 @@ use Rattle.pool.specs.Tables.{Pool, string_word, string_at}
 use Rattle.pool.specs.Rules.{is_digit, all_digits, natural}
 use Rattle.byte_check.proofs.RunLaws.{span_split, span_open, span_none}
 use Rattle.byte_check.proofs.Scan.{natural_is, natural_none}
-use Rattle.byte_check.specs.declared.naturals.Run.{Run}
+use Rattle.std.specs.declared.ops.Range.{Range}
+use Rattle.std.specs.Int.{from_bool}
 use Rattle.byte_check.specs.Runs.{span, Digits, RunOf, RunAt, mark}
 
 -- a byte that is no digit
@@ -45,65 +46,74 @@ module _ (bs : List ℕ) where
       by_place false q = d i (ltb-false i at q) h
 
   -- the next run: v is where the digits end
-  pub run_on : (run : Run) (from to v : ℕ) → RunOf bs run → run.from ≤ from → from ≤ run.to → to ≤ length bs → run.to ≤ v
-      → v ≤ max run.to to → Digits bs run.to v → (v < max run.to to → is_digit (get_or bs v 0) ≡ false)
-      → RunAt bs from to (record { from = run.from; to = v })
+  pub run_on : (run : Range ℕ) (from to v : ℕ) → RunOf bs run → run.start ≤ from → from ≤ run.end → to ≤ length bs → run.end ≤ v
+      → v ≤ max run.end to → Digits bs run.end v → (v < max run.end to → is_digit (get_or bs v 0) ≡ false)
+      → RunAt bs from to (record { start = run.start; end = v })
   run_on run from to v k b l h p q d s =
       let inside = k.inside in
       record {
         begins = b;
         reaches = omega arith;
-        run_of = record { inside = omega arith; digits = digits_join run.from run.to v k.digits d };
+        run_of = record { inside = omega arith; digits = digits_join run.start run.end v k.digits d };
         stops = λ g. s (omega arith);
       }
 
   pub run_new : (from to v : ℕ) → to ≤ length bs → from ≤ v → v ≤ to → Digits bs from v → (v < to → is_digit (get_or bs v 0) ≡ false)
-      → RunAt bs from to (record { from = from; to = v })
+      → RunAt bs from to (record { start = from; end = v })
   run_new from to v h p q d s =
       record { begins = omega arith; reaches = p; run_of = record { inside = omega arith; digits = d }; stops = s }
 
-  pub run_none : RunOf bs (record { from = 0; to = 0 })
+  pub run_none : RunOf bs (record { start = 0; end = 0 })
   run_none = record { inside = omega arith; digits = λ i l h. absurd (omega arith) }
 
-  module _ (from to : ℕ) (run : Run) (k : RunAt bs from to run) (h : to ≤ length bs) where
+  module _ (from to : ℕ) (run : Range ℕ) (k : RunAt bs from to run) (h : to ≤ length bs) where
     -- all are digits if the run goes on to their end
-    digits_by : all_digits (span bs from to) ≡ leb to run.to
+    digits_by : all_digits (span bs from to) ≡ leb to run.end
     unfolding all_digits
-    digits_by = by_end (leb to run.to) refl
+    digits_by = by_end (leb to run.end) refl
       where
-        by_end : (b : Bool) → leb to run.to ≡ b → all_digits (span bs from to) ≡ b
+        by_end : (b : Bool) → leb to run.end ≡ b → all_digits (span bs from to) ≡ b
         by_end true q = by_start (leb to from) refl
           where
             by_start : (b : Bool) → leb to from ≡ b → all_digits (span bs from to) ≡ true
             by_start true g = ap all_digits (span_none bs from to (leb-true to from g))
             by_start false g =
                 let f : from < to = leb-false to from g in
-                let l : to ≤ run.to = leb-true to run.to q in
-                let b : run.from ≤ from = k.begins in
+                let l : to ≤ run.end = leb-true to run.end q in
+                let b : run.start ≤ from = k.begins in
                 digits-taken (to - from) from (omega arith) (λ i m n. k.run_of.digits i (omega arith) (omega arith))
         by_end false q =
-            let l : run.to < to = leb-false to run.to q in
-            ap all_digits (span_split bs from run.to to k.reaches (omega arith)
-            ∙ ap (λ (s : List ℕ). span bs from run.to ++ s) (span_open bs run.to to l h))
-            ∙ digits_broken (span bs from run.to) (get_or bs run.to 0) (span bs (run.to + 1) to) (k.stops l)
+            let l : run.end < to = leb-false to run.end q in
+            ap all_digits (span_split bs from run.end to k.reaches (omega arith)
+            ∙ ap (λ (s : List ℕ). span bs from run.end ++ s) (span_open bs run.end to l h))
+            ∙ digits_broken (span bs from run.end) (get_or bs run.end 0) (span bs (run.end + 1) to) (k.stops l)
 
-    pub natural_by : from < to → (eqb (to - from) 1 || not (eqb (get_or bs from 0) 48)) && leb to run.to ≡ natural (span bs from to)
-    natural_by l =
+    natural_read : from < to → (eqb (to - from) 1 || not (eqb (get_or bs from 0) 48)) && leb to run.end ≡ natural (span bs from to)
+    natural_read l =
         let d : length (drop from bs) ≡ length bs - from = length-drop from bs in
         let n : length (span bs from to) ≡ to - from = length-take-le (to - from) (drop from bs) (omega arith) in
         let g : get_or (span bs from to) 0 0 ≡ get_or bs from 0 = ap (λ (s : List ℕ). get_or s 0 0) (span_open bs from to l h) in
-        ap₂ (λ (m c : ℕ). (eqb m 1 || not (eqb c 48)) && leb to run.to) (sym n) (sym g)
+        ap₂ (λ (m c : ℕ). (eqb m 1 || not (eqb c 48)) && leb to run.end) (sym n) (sym g)
         ∙ ap (λ (b : Bool). (eqb (length (span bs from to)) 1 || not (eqb (get_or (span bs from to) 0 0) 48)) && b) (sym digits_by)
         ∙ natural_is (span bs from to) (λ z. let e : length (span bs from to) ≡ 0 = z in omega arith)
+
+    -- where the code has found x of how they start
+    pub natural_by : from < to → (starts x : Bool) → starts ≡ (eqb (to - from) 1 || not (eqb (get_or bs from 0) 48)) → starts ≡ x
+        → x && leb to run.end ≡ natural (span bs from to)
+    natural_by l starts x e q = rw (← q, e) (natural_read l)
 
   pub natural_empty : (from to : ℕ) → to ≤ from → false ≡ natural (span bs from to)
   natural_empty from to h = natural_none (span bs from to) (ap length (span_none bs from to h))
 
+bool_mark : (b : Bool) → from_bool b ≡ cond b 1 0
+bool_mark true = refl
+bool_mark false = refl
+
 -- what is marked of a string row, whose bytes are cut off at the end of the area
 pub mark_of : (p : Pool) (r from end to : ℕ) (v : ℕ) → from ≡ min (string_word p.names r 0) (length p.bytes)
     → end ≡ string_word p.names r 0 + string_word p.names r 1 → to ≡ min end (length p.bytes)
-    → v ≡ cond (natural (span p.bytes from to)) 1 0 → v ≡ mark p r
+    → v ≡ from_bool (natural (span p.bytes from to)) → v ≡ mark p r
 unfolding string_at
 mark_of p r from end to v f e t q =
-    q ∙ ap (λ (s : List ℕ). cond (natural s) 1 0) (part_clip p.bytes (string_word p.names r 0) (string_word p.names r 1) from to f
+    q ∙ bool_mark (natural (span p.bytes from to)) ∙ ap (λ (s : List ℕ). cond (natural s) 1 0) (part_clip p.bytes (string_word p.names r 0) (string_word p.names r 1) from to f
     (t ∙ ap (λ (n : ℕ). min n (length p.bytes)) e))

@@ -5,8 +5,10 @@ use native.Mathlib.Numerals.{add-one}
 use mathlib.Core.Bool.{Bool, true, false, ◌&&◌, ◌||◌, not}
 use mathlib.Core.List.{List, [], ◌∷◌, ◌++◌}
 use mathlib.Core.Path.{◌≡◌, refl, sym, ap, ap₂, ◌∙◌, subst}
-use lib.ListN.{length, get_or, take, drop}
-use lib.Seq.{drop-cons, take-add, drop-drop}
+use lib.ListN.{length, get_or, take, drop, length-drop, get_or-append}
+use lib.Seq.{drop-cons, take-add, drop-drop, drop-append_seam}
+use Rattle.std.proofs.Common.{fold, length-append, length-take}
+use Rattle.std.proofs.lemmas.List.{get_or-drop, get_or-take}
 use lib.Dec.{ltb, leb}
 use borrow.Author.Tests.{ltb-true, lt-ltb, leb-true, leb-false, le-leb, lt-leb}
 use Rattle.basics.proofs.Booleans.{and_left, and_right, true-false, false-true, not_so}
@@ -84,6 +86,16 @@ ascii_first : (b : ℕ) (s : List ℕ) → b < 0x80 → utf8 (b ∷ s) ≡ utf8 
 unfolding utf8 utf8_from
 ascii_first b s h = let g : b < 0xc0 = omega arith in rw (lt-ltb b 0x80 h, lt-ltb b 0xc0 g) (fresh b 0 s)
 
+-- no byte is above the largest
+largest_above : (xs : List ℕ) (most : ℕ) → most ≤ fold (λ m b. max m b) most xs
+largest_above [] most = omega arith
+largest_above (x ∷ xs) most = omega (arith, largest_above xs (max most x))
+
+each_at_most : (xs : List ℕ) (most i : ℕ) → i < length xs → get_or xs i 0 ≤ fold (λ m b. max m b) most xs
+each_at_most [] most i h = absurd (omega arith)
+each_at_most (x ∷ xs) most zero h = omega (arith, largest_above xs (max most x))
+each_at_most (x ∷ xs) most (suc i) h = each_at_most xs (max most x) i (omega arith)
+
 -- parts of the byte area
 module _ (bs : List ℕ) where
   pub span_split : (from at to : ℕ) → from ≤ at → at ≤ to → span bs from to ≡ span bs from at ++ span bs at to
@@ -136,9 +148,6 @@ module _ (bs : List ℕ) where
   unfolding utf8
   valid_on from at to p q h = sym (ap utf8 (span_split from at to p q) ∙ go_on (span bs from at) 0 0 0 (span bs at to) h)
 
-  pub ascii_on : (i to : ℕ) (t : Bool) → i < to → to ≤ length bs → get_or bs i 0 < 0x80 → utf8 (span bs i to) ≡ t → utf8 (span bs (i + 1) to) ≡ t
-  ascii_on i to t h l a e = sym (ap utf8 (span_open i to h l) ∙ ascii_first (get_or bs i 0) (span bs (i + 1) to) a) ∙ e
-
   pub ascii_all : (n from to : ℕ) → to - from ≡ n → to ≤ length bs → Ascii bs to → utf8 (span bs from to) ≡ true
   ascii_all zero from to e l a = sym (valid_none from to (omega arith))
   ascii_all (suc n) from to e l a =
@@ -153,6 +162,29 @@ module _ (bs : List ℕ) where
       by : (b : Bool) → leb at i ≡ b → get_or bs i 0 < 0x80
       by true e = omega (arith, f i h (leb-true at i e))
       by false e = a i (leb-false at i e)
+
+  -- ASCII before `at`, where a block stands, and no byte of the block above its largest
+  module _ (at : ℕ) (block rest : List ℕ) (e : drop at bs ≡ block ++ rest) where
+    pub block_rest : rest ≡ drop (at + length block) bs
+    block_rest = sym (drop-append_seam block rest) ∙ ap (drop (length block)) (sym e) ∙ drop-drop (length block) at bs
+
+    pub block_inside : at ≤ length bs → at + length block ≤ length bs
+    block_inside h = omega (arith, length-drop at bs, ap length e, length-append block rest)
+
+    pub block_ascii : Ascii bs at → fold (λ m b. max m b) 0 block < 0x80 → Ascii bs (at + length block)
+    block_ascii a h = ascii_more at (at + length block) _ a in_block h
+      where
+        in_block : (i : ℕ) → i < at + length block → at ≤ i → get_or bs i 0 ≤ fold (λ m b. max m b) 0 block
+        in_block i l g =
+            let j : i ≡ at + (i - at) = omega arith in
+            let k : i - at < length block = omega arith in
+            let read : get_or bs i 0 ≡ get_or block (i - at) 0 =
+            ap (λ (n : ℕ). get_or bs n 0) j ∙ sym (get_or-drop at bs (i - at) 0) ∙ ap (λ (l : List ℕ). get_or l (i - at) 0) e ∙ get_or-append block rest 0 (i - at) k in
+            rw read (each_at_most block 0 (i - at) k)
+
+  -- ASCII in the first bytes
+  pub ascii_front : (n to : ℕ) → to ≤ length (take n bs) → Ascii (take n bs) to → Ascii bs to
+  ascii_front n to h a i l = let k : i < n = omega (arith, length-take n bs) in rw (← get_or-take n bs i 0 k) (a i l)
 
   -- what is known grows with each string
   pub known_none : Known bs 0 0

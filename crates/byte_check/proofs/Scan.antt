@@ -1,57 +1,55 @@
 -- Laws of the scan for a table's first bad row, and of the test of a natural.
-use Prim.Native.Nat.{ℕ, suc, ◌+◌, ◌-◌, ◌≤◌, ◌<◌}
+use Prim.Native.Nat.{ℕ, zero, suc, ◌+◌, ◌-◌, ◌≤◌, ◌<◌}
 use native.Mathlib.Omega.{arith}
-use native.Mathlib.Numerals.{add-one}
-use mathlib.Core.Bool.{Bool, true, false, ◌&&◌, ◌||◌, not, cond}
+use mathlib.Core.Bool.{Bool, true, false, ◌&&◌, ◌||◌, not}
 use mathlib.Core.List.{List, [], ◌∷◌}
-use mathlib.Core.Path.{◌≡◌, refl, sym, ap, ◌∙◌}
+use mathlib.Core.Path.{◌≡◌, refl, ap, ◌∙◌}
+use Rattle.std.specs.Prelude.{Option, None, Some, MatchOption}
 use lib.ListN.{length, get_or}
 use lib.Dec.{eqb}
-use borrow.Author.Tests.{ne_eqb}
+use borrow.Author.Tests.{ne_eqb, lt-ltb, le-ltb}
 use Rattle.basics.proofs.Booleans.{and-true}
 use Rattle.pool.specs.Rules.{all_digits, natural, is_digit}
-use Rattle.byte_check.specs.Scan.{first_bad}
+use Rattle.byte_check.specs.Scan.{first_bad, found}
 
-module _ (ok : ℕ → Bool) (count x i : ℕ) (h : i < count) where
-  bad_here : first_bad ok (count - i) i ≡ cond (ok i) (first_bad ok (count - (i + 1)) (i + 1)) i
+-- a table of so many rows, each from row r on
+module _ (ok : ℕ → Bool) where
+  -- where all rows before i are right, the scan from row r on goes on at row i
+  bad_after : (n r : ℕ) → ((k : ℕ) → r ≤ k → k < r + n → ok k ≡ true) → (left : ℕ) → first_bad ok (n + left) r ≡ first_bad ok left (r + n)
   unfolding first_bad
-  bad_here =
-      let k : count - i ≡ suc (count - (i + 1)) = omega arith in
-      ap (λ (m : ℕ). first_bad ok m i) k ∙ ap (λ (j : ℕ). cond (ok i) (first_bad ok (count - (i + 1)) j) i) (sym (add-one i))
+  bad_after zero r h left = let e : r + 0 ≡ r = omega arith in rw (e) (let g : 0 + left ≡ left = omega arith in rw g)
+  bad_after (suc n) r h left =
+      let e : suc n + left ≡ suc (n + left) = omega arith in
+      let g : r + suc n ≡ suc r + n = omega arith in
+      rw (e, h r (omega arith) (omega arith), g) (bad_after n (suc r) (λ k p q. h k (omega arith) (omega arith)) left)
 
-  -- where the code finds v of row i, and x is what the scan is to find
-  module _ (v : Bool) (e : v ≡ ok i) (s : first_bad ok (count - i) i ≡ x) where
-    by_answer : (b : Bool) → v ≡ b → cond b (first_bad ok (count - (i + 1)) (i + 1)) i ≡ x
-    by_answer b y = sym (bad_here ∙ ap (λ (x : Bool). cond x (first_bad ok (count - (i + 1)) (i + 1)) i) (sym e ∙ y)) ∙ s
+  pub bad_at : (count r : ℕ) → r < count → ((k : ℕ) → k < r → ok k ≡ true) → ok r ≡ false → first_bad ok count 0 ≡ r
+  unfolding first_bad
+  bad_at count r l h f =
+      let e : count ≡ r + suc (count - (r + 1)) = omega arith in
+      let g : 0 + r ≡ r = omega arith in
+      ap (λ (n : ℕ). first_bad ok n 0) e ∙ bad_after r 0 (λ k p q. h k (omega arith)) (suc (count - (r + 1))) ∙ rw (g, f)
 
-    pub step_to : v ≡ true → first_bad ok (count - (i + 1)) (i + 1) ≡ x
-    step_to y = by_answer true y
+  pub bad_none : (count : ℕ) → ((k : ℕ) → k < count → ok k ≡ true) → first_bad ok count 0 ≡ count
+  unfolding first_bad
+  bad_none count h =
+      let e : count ≡ count + 0 = omega arith in
+      let g : 0 + count ≡ count = omega arith in
+      ap (λ (n : ℕ). first_bad ok n 0) e ∙ bad_after count 0 (λ k p q. h k (omega arith)) 0 ∙ g
 
-    pub found_at : v ≡ false → i ≡ x
-    found_at y = by_answer false y
+  pub found_at : (count r : ℕ) → r < count → ((k : ℕ) → k < r → ok k ≡ true) → ok r ≡ false → Some r ≡ found ok count
+  unfolding found
+  found_at count r l h f = rw (bad_at count r l h f, lt-ltb r count l)
 
--- the same for a scan from row 0 on
-module _ (ok : ℕ → Bool) (count n i : ℕ) (h : i < count) (v : Bool) (e : v ≡ ok i) (s : first_bad ok (count - i) i ≡ first_bad ok n 0) where
-  pub bad_step : v ≡ true → first_bad ok (count - (i + 1)) (i + 1) ≡ first_bad ok n 0
-  bad_step y = step_to ok count (first_bad ok n 0) i h v e s y
+  pub found_none : (count : ℕ) → ((k : ℕ) → k < count → ok k ≡ true) → None ≡ found ok count
+  unfolding found
+  found_none count h = let e : count ≤ count = omega arith in rw (bad_none count h, le-ltb count count e)
 
-  pub bad_found : v ≡ false → i ≡ first_bad ok n 0
-  bad_found y = found_at ok count (first_bad ok n 0) i h v e s y
-
-pub none_from : (ok : ℕ → Bool) (count x i : ℕ) → count ≤ i → first_bad ok (count - i) i ≡ x → i ≡ x
-unfolding first_bad
-none_from ok count x i q s =
-    let z : count - i ≡ 0 = omega arith in
-    sym (ap (λ (m : ℕ). first_bad ok m i) z) ∙ s
-
-pub bad_none : (ok : ℕ → Bool) (count n i : ℕ) → i ≤ count → count ≤ i → first_bad ok (count - i) i ≡ first_bad ok n 0 → i ≡ first_bad ok n 0
-unfolding first_bad
-bad_none ok count n i p q s =
-    let z : count - i ≡ 0 = omega arith in
-    sym (ap (λ (m : ℕ). first_bad ok m i) z) ∙ s
-
-pub bad_start : (ok : ℕ → Bool) (count n : ℕ) → count ≡ n → first_bad ok (count - 0) 0 ≡ first_bad ok n 0
-bad_start ok count n e = let k : count - 0 ≡ n = omega arith in ap (λ (m : ℕ). first_bad ok m 0) k
+-- the same of what `find` says of the rows
+pub found_is : (ok : ℕ → Bool) (count : ℕ) (v : Option ℕ) → MatchOption v ((k : ℕ) → 0 ≤ k → k < count → ok k ≡ true)
+    (λ r. (0 ≤ r) × (r < count) × (ok r ≡ false) × ((k : ℕ) → 0 ≤ k → k < r → ok k ≡ true)) → v ≡ found ok count
+found_is ok count None h = found_none ok count (λ k l. h k (omega arith) l)
+found_is ok count (Some r) h = found_at ok count r h.1 (λ k l. h.3 k (omega arith) l) h.2
 
 pub natural_none : (s : List ℕ) → length s ≡ 0 → false ≡ natural s
 unfolding natural

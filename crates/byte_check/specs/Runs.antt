@@ -3,7 +3,7 @@ use Rattle.std.specs.Prelude.{ℕ, zero, suc, ◌-◌, ◌≤◌, ◌<◌, true,
 use Rattle.utf8.specs.Utf8.{utf8, is_follower}
 use Rattle.pool.specs.Tables.{Pool, S, string_at}
 use Rattle.pool.specs.Rules.{is_digit, natural}
-use Rattle.byte_check.specs.declared.naturals.Run.{Run}
+use Rattle.std.specs.declared.ops.Range.{Range}
 
 -- the bytes from `from` on and before `to`
 abbrev pub span : List ℕ → ℕ → ℕ → List ℕ
@@ -27,16 +27,16 @@ before offset (suc r) = offset r
 abbrev pub Digits : List ℕ → ℕ → ℕ → Type 0
 Digits bs from to = (i : ℕ) → from ≤ i → i < to → is_digit (get_or bs i 0) ≡ true
 
-pub record RunOf (bs : List ℕ) (run : Run) : Type 0 where
-  pub inside : run.to ≤ length bs
-  pub digits : Digits bs run.from run.to
+pub record RunOf (bs : List ℕ) (run : Range ℕ) : Type 0 where
+  pub inside : run.end ≤ length bs
+  pub digits : Digits bs run.start run.end
 
 -- the run that the bytes from `from` on and before `to` begin in: it ends where they do, or later, or before a byte that is no digit
-pub record RunAt (bs : List ℕ) (from to : ℕ) (run : Run) : Type 0 where
-  pub begins : run.from ≤ from
-  pub reaches : from ≤ run.to
+pub record RunAt (bs : List ℕ) (from to : ℕ) (run : Range ℕ) : Type 0 where
+  pub begins : run.start ≤ from
+  pub reaches : from ≤ run.end
   pub run_of : RunOf bs run
-  pub stops : run.to < to → is_digit (get_or bs run.to 0) ≡ false
+  pub stops : run.end < to → is_digit (get_or bs run.end 0) ≡ false
 
 -- a byte for each string row: 1 for a natural, else 0
 abbrev pub mark : Pool → ℕ → ℕ

@@ -1,30 +1,29 @@
 // The strings: pairs into the byte area. Offsets never fall, and bytes that are UTF-8 may be cut before any byte that goes on with no code
 // point: so what an earlier string has in common with a later one is not read again.
-ghost use Rattle.std.specs.Prelude.{◌≡◌, ℕ, ◌+◌, ◌<◌, ◌≤◌, List, length, get_or};
+ghost use Rattle.std.specs.Prelude.{◌≡◌, ℕ, ◌+◌, ◌<◌, ◌≤◌, length, max, fold};
 ghost use Rattle.utf8.specs.Utf8.{utf8, is_follower};
 ghost use Rattle.pool.specs.Tables.{S, string_word};
 ghost use Rattle.pool.specs.Rules.{string_ok};
-ghost use Rattle.byte_check.specs.Scan.{first_bad};
+ghost use Rattle.pool.specs.Views.{read};
+ghost use Rattle.byte_check.specs.Scan.{found};
 ghost use Rattle.byte_check.specs.Runs.{span, Known, Ascii, before};
-ghost use Rattle.pool.specs.Areas.{NamesOf, over};
 
-use basics::bools::both;
-use basics::numbers::{larger, lesser};
-use pool::kinds::{LENGTH, OFFSET};
-use pool::tables::{Tables, string_word};
+use pool::fields::{STRING_LENGTH, STRING_OFFSET};
+use pool::names::Names;
+use pool::pool::Pool;
 
 // Where the bytes of string row r end.
-pub(crate) fn string_end(names: &[u32], r: usize) -> usize
-    ensures { (result ≡ string_word names.now r 0 + string_word names.now r 1) × (result < 8589934592) }
+pub(crate) fn string_end(names: &Names<'_>, r: usize) -> usize
+    ensures { (result ≡ string_word names.now.words.now r 0 + string_word names.now.words.now r 1) × (result < 8589934592) }
 {
-    string_word(names, r, OFFSET) + string_word(names, r, LENGTH)
+    names.string(r, STRING_OFFSET) + names.string(r, STRING_LENGTH)
 }
 
 // A byte that goes on with a code point.
 fn is_follower(b: u8) -> bool
     ensures { result ≡ is_follower b }
 {
-    both(0x80 <= b, b < 0xc0)
+    0x80 <= b && b < 0xc0
 }
 
 // How many bytes are looked at before the next decision.
@@ -33,58 +32,25 @@ const BLOCK: usize = 64;
 // How many bytes are looked at for each string at most, so that few strings in a large byte area are quickly checked.
 const SHARE: usize = 256;
 
-fn larger_byte(a: u8, b: u8) -> u8
-    ensures { (a ≤ result) × (b ≤ result) }
+// At least every byte. It stops nowhere, so that the machine takes many bytes at a time.
+fn largest(bytes: &[u8]) -> u8
+    ensures { result ≡ fold (λ most b. max most b) 0 bytes.now }
 {
-    if a < b { b } else { a }
+    bytes.iter().fold(0, |most, b| most.max(*b))
 }
 
-// At least every byte from `from` on and before `to`. It stops nowhere, so that the machine takes many bytes at a time.
-fn largest(bytes: &[u8], from: usize, to: usize) -> u8
-    requires { to ≤ length bytes.now }
-    ensures { (i : ℕ) → i < to → from ≤ i → get_or bytes.now i 0 ≤ result }
+// How far the bytes are ASCII for certain: up to their first block that is not.
+fn ascii_blocks(bytes: &[u8]) -> usize
+    ensures { (result ≤ length bytes.now) × (Ascii bytes.now result) }
 {
-    let mut most: u8 = 0;
-    let mut i = from;
-    while i < to {
-        most = larger_byte(most, bytes[i]);
-        i += 1;
-    }
-    most
-}
-
-// How far the first `size` bytes are ASCII for certain: up to their first block that is not.
-fn ascii_blocks(bytes: &[u8], size: usize) -> usize
-    requires { size ≤ length bytes.now }
-    ensures { Ascii bytes.now result }
-{
-    let mut at: usize = 0;
-    while BLOCK <= size - at {
-        if 0x80 <= largest(bytes, at, at + BLOCK) {
+    let mut at = 0;
+    for block in bytes.chunks(BLOCK) {
+        if 0x80 <= largest(block) {
             return at;
         }
-        at += BLOCK;
+        at += block.len();
     }
-    if 0x80 <= largest(bytes, at, size) {
-        at
-    } else {
-        size
-    }
-}
-
-// Where the bytes from `from` on and before `to` stop to be ASCII: what lies before that is UTF-8, and quickly read.
-fn ascii_end(bytes: &[u8], from: usize, to: usize) -> usize
-    requires { (from ≤ to) × (to ≤ length bytes.now) }
-    ensures { (result ≤ to) × (utf8 (span bytes.now result to) ≡ utf8 (span bytes.now from to)) }
-{
-    let mut i = from;
-    while i < to {
-        if 0x80 <= bytes[i] {
-            return i;
-        }
-        i += 1;
-    }
-    i
+    at
 }
 
 // Whether the bytes from `from` on and before `to` are UTF-8; those before `known` were read.
@@ -101,20 +67,20 @@ fn is_valid(bytes: &[u8], from: usize, to: usize, known: usize) -> bool
     if to < known {
         return !is_follower(bytes[to]);
     }
-    let unread = larger(from, known);
-    let rest = ascii_end(bytes, unread, to);
-    utf8::is_utf8(&bytes[rest..to])
+    let unread = from.max(known);
+    utf8::is_utf8(&bytes[unread..to])
 }
 
 // The offset before row r is `last`, and the bytes before `ascii` are ASCII: what ends there needs no reading.
-fn string_ok(bytes: &[u8], names: &[u32], r: usize, last: usize, ascii: usize, known: usize) -> bool
-    requires { (Known bytes.now last known) × (last ≡ before (λ i. string_word names.now i 0) r)
-        × (Ascii bytes.now ascii) }
-    ensures { (ws : List ℕ) → result ≡ string_ok (over bytes.now names.now ws) r }
+fn string_ok(pool: &Pool<'_>, r: usize, last: usize, ascii: usize, known: usize) -> bool
+    requires { (Known pool.now.bytes.now last known)
+        × (last ≡ before (λ i. string_word (read pool.now).names i 0) r)
+        × (Ascii pool.now.bytes.now ascii) }
+    ensures { result ≡ string_ok (read pool.now) r }
 {
-    let offset = string_word(names, r, OFFSET);
-    let end = string_end(names, r);
-    if bytes.len() < end {
+    let offset = pool.names.string(r, STRING_OFFSET);
+    let end = string_end(&pool.names, r);
+    if pool.bytes.len() < end {
         return false;
     }
     if offset < last {
@@ -123,28 +89,24 @@ fn string_ok(bytes: &[u8], names: &[u32], r: usize, last: usize, ascii: usize, k
     if end <= ascii {
         return true;
     }
-    is_valid(bytes, offset, end, known)
+    is_valid(pool.bytes, offset, end, known)
 }
 
-// The first string row that breaks a rule, or their count.
-pub fn first_bad_string(bytes: &[u8], names: &[u32], t: Tables) -> usize
-    requires { NamesOf names.now t }
-    ensures { (ws : List ℕ) → result ≡ first_bad (string_ok (over bytes.now names.now ws))
-        (S names.now) 0 }
+// The first string row that breaks a rule.
+pub fn first_bad_string(pool: &Pool<'_>) -> Option<usize>
+    ensures { result ≡ found (string_ok (read pool.now)) (S (read pool.now).names) }
 {
-    let count = t.strings;
-    let share = lesser(bytes.len(), SHARE * count);
-    let ascii = ascii_blocks(bytes, share);
-    let mut last: usize = 0;
-    let mut known: usize = 0;
-    let mut r: usize = 0;
-    while r < count {
-        if !string_ok(bytes, names, r, last, ascii, known) {
-            return r;
+    let count = pool.names.tables.strings;
+    let share = pool.bytes.len().min(SHARE * count);
+    let ascii = ascii_blocks(&pool.bytes[..share]);
+    let mut last = 0;
+    let mut known = 0;
+    for r in 0..count {
+        if !string_ok(pool, r, last, ascii, known) {
+            return Some(r);
         }
-        last = string_word(names, r, OFFSET);
-        known = larger(known, string_end(names, r));
-        r += 1;
+        last = pool.names.string(r, STRING_OFFSET);
+        known = known.max(string_end(&pool.names, r));
     }
-    r
+    None
 }

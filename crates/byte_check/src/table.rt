@@ -5,8 +5,5 @@ ghost use Rattle.std.specs.Prelude.{◌≡◌, ◌<◌, get_or};
 pub fn byte_at(table: &[u8], i: usize) -> usize
     ensures { (result ≡ get_or table.now i 0) × (result < 256) }
 {
-    if i < table.len() {
-        return table[i] as usize;
-    }
-    0
+    table.get(i).map_or(0, |b| usize::from(*b))
 }

@@ -3,16 +3,14 @@ use Prim.Native.Nat.{ℕ, suc, ◌+◌, ◌-◌, ◌<◌, ◌≤◌}
 use native.Mathlib.Omega.{arith}
 use native.Mathlib.Numerals.{add-one}
 use mathlib.Core.Bool.{Bool, true, false, ◌&&◌, cond}
-use mathlib.Core.List.{List}
+use Rattle.std.specs.Prelude.{Option, Some, None}
 use mathlib.Core.Path.{◌≡◌, refl, sym, ap, ap₂, ◌∙◌, subst}
 use lib.ListN.{length}
 use lib.Dec.{ltb, eqb}
 use borrow.Author.Tests.{eq-eqb, ne_eqb, lt-ltb, le-ltb}
 use Rattle.basics.proofs.Booleans.{and-true}
 use Rattle.utf8.specs.Letterlike.{same_bytes}
-use Rattle.pool.specs.declared.tables.Tables.{Tables}
 use Rattle.pool.specs.Tables.{Pool, S, N, L, K, E, string_word, expr_word, string_at}
-use Rattle.pool.specs.Areas.{over}
 use Rattle.pool.specs.Tree.{Expr, var, sort, const, app, pi, lam, letᵉ, proj, nat, str, loose, lift, shape, level_shapes, same_shape, same_shapes, same}
 use Rattle.pool.specs.Unfold.{list_at, expr_at}
 use Rattle.pool.specs.Sound.{Sound}
@@ -21,12 +19,12 @@ use Rattle.pool.proofs.TreeLaws.{same_self}
 use Rattle.pool.proofs.RowUnfolds.{string_fits}
 use Rattle.pool.proofs.ExprUnfolds.{kind_small, depth-word, loose-word, label_word, var_at, sort_at, const_at, app_at, pi_at, lam_at, let_at, proj_at, nat_at, str_at}
 use Rattle.pool.proofs.ExprUnfolds.{sort_ok, const_ok, pi_ok, lam_ok, let_ok, proj_ok, nat_ok, str_ok}
-use Rattle.pool.specs.Ready.{Ready}
+use Rattle.pool.specs.Sound.{Sound}
 use Rattle.occurrence.specs.Parts.{first_part, second_part, body_part}
 use Rattle.compare.specs.Equal.{Quick, trees_same, names_same, levels_same, besides, string_of, fields_same, parts_same, ByParts, OneKind}
 use Rattle.compare.specs.Equal.{same_at}
 use Rattle.occurrence.proofs.PartLaws.{ten}
-use Rattle.compare.proofs.LevelLaws.{they_differ, they_agree, they_may}
+use Rattle.compare.proofs.LevelLaws.{answered, they_may}
 
 -- ---- a first look
 
@@ -43,62 +41,59 @@ lift_label n c (proj a i e) = refl
 lift_label n c (nat s) = refl
 lift_label n c (str s) = refl
 
-module _ (bs ns ws : List ℕ) (t : Tables) (ready : Ready bs ns ws t) (a b : ℕ) (ha : a < E ws) (hb : b < E ws) (d c : ℕ) where
-  abbrev p : Pool
-  p = over bs ns ws
+module _ (p : Pool) (sound : Sound p) (a b : ℕ) (ha : a < E p.words) (hb : b < E p.words) (d c : ℕ) where
+  abbrev Answer : Option Bool → Type 0
+  Answer v = Quick (trees_same p d c a b) (expr_word p.words a 0 ≡ expr_word p.words b 0) v
 
-  abbrev Answer : ℕ → Type 0
-  Answer v = Quick (trees_same p d c a b) (expr_word ws a 0 ≡ expr_word ws b 0) v
-
-  pub other_depths : (x y : ℕ) → x ≡ expr_word ws a 6 → y ≡ expr_word ws b 6 → (x ≡ y → ⊥) → Answer 0
+  pub other_depths : (x y : ℕ) → x ≡ expr_word p.words a 6 → y ≡ expr_word p.words b 6 → (x ≡ y → ⊥) → Answer (Some false)
   other_depths x y ex ey n =
-      they_differ _ _
-      (differs_depth _ _ (λ q. n (ex ∙ depth-word p ready.sound a ha ∙ sym (lift-depth d c (expr_at p a)) ∙ q ∙ sym (depth-word p ready.sound b hb) ∙ sym ey)))
+      answered _ _ false
+      (differs_depth _ _ (λ q. n (ex ∙ depth-word p sound a ha ∙ sym (lift-depth d c (expr_at p a)) ∙ q ∙ sym (depth-word p sound b hb) ∙ sym ey)))
 
-  pub other_labels : (x y : ℕ) → x ≡ expr_word ws a 0 → y ≡ expr_word ws b 0 → (x ≡ y → ⊥) → Answer 0
+  pub other_labels : (x y : ℕ) → x ≡ expr_word p.words a 0 → y ≡ expr_word p.words b 0 → (x ≡ y → ⊥) → Answer (Some false)
   other_labels x y ex ey n =
-      they_differ _ _
-      (labels_differ _ _ (λ q. n (ex ∙ sym (label_word p ready.sound a ha) ∙ sym (lift_label d c (expr_at p a)) ∙ q ∙ label_word p ready.sound b hb ∙ sym ey)))
+      answered _ _ false
+      (labels_differ _ _ (λ q. n (ex ∙ sym (label_word p sound a ha) ∙ sym (lift_label d c (expr_at p a)) ∙ q ∙ label_word p sound b hb ∙ sym ey)))
 
-  module _ (k l : ℕ) (ek : k ≡ expr_word ws a 0) (el : l ≡ expr_word ws b 0) (ekl : k ≡ l) (x y : ℕ) (ex : x ≡ expr_word ws a 7) (ey : y ≡ expr_word ws b 7) where
+  module _ (k l : ℕ) (ek : k ≡ expr_word p.words a 0) (el : l ≡ expr_word p.words b 0) (ekl : k ≡ l) (x y : ℕ) (ex : x ≡ expr_word p.words a 7) (ey : y ≡ expr_word p.words b 7) where
     loose_a : x ≡ loose (expr_at p a)
-    loose_a = ex ∙ loose-word p ready.sound a ha
+    loose_a = ex ∙ loose-word p sound a ha
 
     loose_b : y ≡ loose (expr_at p b)
-    loose_b = ey ∙ loose-word p ready.sound b hb
+    loose_b = ey ∙ loose-word p sound b hb
 
     lifted_is : loose (lift d c (expr_at p a)) ≡ raised d c x
     lifted_is = lift-loose d c (expr_at p a) ∙ ap (raised d c) (sym loose_a)
 
-    kinds_one : expr_word ws a 0 ≡ expr_word ws b 0
+    kinds_one : expr_word p.words a 0 ≡ expr_word p.words b 0
     kinds_one = sym ek ∙ ekl ∙ el
 
-    pub may_be : Answer 2
+    pub may_be : Answer None
     may_be = they_may _ _ kinds_one
 
     module _ (h : x ≤ c) where
-      pub low_differs : (x ≡ y → ⊥) → Answer 0
-      low_differs n = they_differ _ _ (differs_loose _ _ (λ q. n (sym (raised_low d c x h) ∙ sym lifted_is ∙ q ∙ sym loose_b)))
+      pub low_differs : (x ≡ y → ⊥) → Answer (Some false)
+      low_differs n = answered _ _ false (differs_loose _ _ (λ q. n (sym (raised_low d c x h) ∙ sym lifted_is ∙ q ∙ sym loose_b)))
 
-      pub low_agrees : a ≡ b → Answer 1
+      pub low_agrees : a ≡ b → Answer (Some true)
       low_agrees e =
-          they_agree _ _
+          answered _ _ true
           (ap (λ (f : Expr). same f (expr_at p b)) (lift_closed d c (expr_at p a) (subst (λ (z : ℕ). z ≤ c) loose_a h) ∙ ap (expr_at p) e)
           ∙ same_self (expr_at p b))
 
     module _ (h : c < x) where
-      pub high_differs : (x + d ≡ y → ⊥) → Answer 0
-      high_differs n = they_differ _ _ (differs_loose _ _ (λ q. n (sym (raised_high d c x h) ∙ sym lifted_is ∙ q ∙ sym loose_b)))
+      pub high_differs : (x + d ≡ y → ⊥) → Answer (Some false)
+      high_differs n = answered _ _ false (differs_loose _ _ (λ q. n (sym (raised_high d c x h) ∙ sym lifted_is ∙ q ∙ sym loose_b)))
 
-      pub below_differs : y < x → Answer 0
+      pub below_differs : y < x → Answer (Some false)
       below_differs l = high_differs (λ q. omega arith)
 
-      pub apart_differs : x ≤ y → (y - x ≡ d → ⊥) → Answer 0
+      pub apart_differs : x ≤ y → (y - x ≡ d → ⊥) → Answer (Some false)
       apart_differs g n = high_differs (λ q. n (omega arith))
 
-      pub not_lifted : d ≡ 0 → a ≡ b → Answer 1
+      pub not_lifted : d ≡ 0 → a ≡ b → Answer (Some true)
       not_lifted z e =
-          they_agree _ _
+          answered _ _ true
           (ap (λ (f : Expr). same f (expr_at p b)) (ap (λ (n : ℕ). lift n c (expr_at p a)) z ∙ lift_none c (expr_at p a) ∙ ap (expr_at p) e)
           ∙ same_self (expr_at p b))
 
@@ -215,85 +210,78 @@ four_to_seven P a b c d k g h =
     ten (λ (i : ℕ). 3 < i → i < 8 → P i) (λ g h. absurd (omega arith)) (λ g h. absurd (omega arith)) (λ g h. absurd (omega arith)) (λ g h. absurd (omega arith))
     (λ g h. a) (λ g h. b) (λ g h. c) (λ g h. d) (λ g h. absurd (omega arith)) (λ g h. absurd (omega arith)) k (omega arith) g h
 
-module _ (bs ns ws : List ℕ) (t : Tables) (a b kind : ℕ) (s : OneKind bs ns ws t a b kind) where
-  abbrev pool : Pool
-  pool = over bs ns ws
-
-  at_a : (k : ℕ) → kind ≡ k → expr_word ws a 0 ≡ k
+module _ (p : Pool) (sound : Sound p) (a b kind : ℕ) (s : OneKind p a b kind) where
+  at_a : (k : ℕ) → kind ≡ k → expr_word p.words a 0 ≡ k
   at_a k e = sym s.a_kind ∙ e
 
-  at_b : (k : ℕ) → kind ≡ k → expr_word ws b 0 ≡ k
+  at_b : (k : ℕ) → kind ≡ k → expr_word p.words b 0 ≡ k
   at_b k e = sym s.b_kind ∙ e
 
-  pub same_kind : kind ≡ 2 → OneKind bs ns ws t a b 2
-  same_kind e = record { ready = s.ready; a_row = s.a_row; b_row = s.b_row; a_kind = sym e ∙ s.a_kind; b_kind = sym e ∙ s.b_kind }
+  pub same_kind : kind ≡ 2 → OneKind p a b 2
+  same_kind e = record { a_row = s.a_row; b_row = s.b_row; a_kind = sym e ∙ s.a_kind; b_kind = sym e ∙ s.b_kind }
 
-  module _ (m n : ℕ) (em : m ≡ expr_word ws a 1) (en : n ≡ expr_word ws b 1) where
-    pub const_names : kind ≡ 2 → Ready bs ns ws t × (m < N ns) × (n < N ns)
+  module _ (m n : ℕ) (em : m ≡ expr_word p.words a 1) (en : n ≡ expr_word p.words b 1) where
+    pub const_names : kind ≡ 2 → (m < N p.names) × (n < N p.names)
     const_names e =
-        (s.ready, rw em (const_ok pool s.ready.sound a s.a_row (at_a 2 e)).0, rw en (const_ok pool s.ready.sound b s.b_row (at_b 2 e)).0)
+        (rw em (const_ok p sound a s.a_row (at_a 2 e)).0, rw en (const_ok p sound b s.b_row (at_b 2 e)).0)
 
-    pub sort_levels : kind ≡ 1 → Ready bs ns ws t × (m < L ws) × (n < L ws)
+    pub sort_levels : kind ≡ 1 → (m < L p.words) × (n < L p.words)
     sort_levels e =
-        (s.ready, rw em (sort_ok pool s.ready.sound a s.a_row (at_a 1 e)), rw en (sort_ok pool s.ready.sound b s.b_row (at_b 1 e)))
+        (rw em (sort_ok p sound a s.a_row (at_a 1 e)), rw en (sort_ok p sound b s.b_row (at_b 1 e)))
 
-    name_there : (r : ℕ) → r < E ws → expr_word ws r 0 ≡ kind → 3 < kind → kind < 8 → expr_word ws r 1 < N ns
+    name_there : (r : ℕ) → r < E p.words → expr_word p.words r 0 ≡ kind → 3 < kind → kind < 8 → expr_word p.words r 1 < N p.names
     name_there r h e g l =
-        four_to_seven (λ (k : ℕ). expr_word ws r 0 ≡ k → expr_word ws r 1 < N ns)
-        (λ q. (pi_ok pool s.ready.sound r h q).0) (λ q. (lam_ok pool s.ready.sound r h q).0)
-        (λ q. (let_ok pool s.ready.sound r h q).0) (λ q. (proj_ok pool s.ready.sound r h q).0) kind g l e
+        four_to_seven (λ (k : ℕ). expr_word p.words r 0 ≡ k → expr_word p.words r 1 < N p.names)
+        (λ q. (pi_ok p sound r h q).0) (λ q. (lam_ok p sound r h q).0)
+        (λ q. (let_ok p sound r h q).0) (λ q. (proj_ok p sound r h q).0) kind g l e
 
-    pub named_names : 3 < kind → kind < 8 → Ready bs ns ws t × (m < N ns) × (n < N ns)
+    pub named_names : 3 < kind → kind < 8 → (m < N p.names) × (n < N p.names)
     named_names g h =
-        (s.ready, rw em (name_there a s.a_row (sym s.a_kind) g h), rw en (name_there b s.b_row (sym s.b_kind) g h))
+        (rw em (name_there a s.a_row (sym s.a_kind) g h), rw en (name_there b s.b_row (sym s.b_kind) g h))
 
     small : kind < 10
-    small = rw s.a_kind (kind_small pool s.ready.sound a s.a_row)
+    small = rw s.a_kind (kind_small p sound a s.a_row)
 
-    literal : (r : ℕ) → r < E ws → expr_word ws r 0 ≡ kind → 8 ≤ kind → expr_word ws r 1 < S ns
+    literal : (r : ℕ) → r < E p.words → expr_word p.words r 0 ≡ kind → 8 ≤ kind → expr_word p.words r 1 < S p.names
     literal r h e g =
-        ten (λ (k : ℕ). 8 ≤ k → expr_word ws r 0 ≡ k → expr_word ws r 1 < S ns) (λ l q. absurd (omega arith)) (λ l q. absurd (omega arith))
+        ten (λ (k : ℕ). 8 ≤ k → expr_word p.words r 0 ≡ k → expr_word p.words r 1 < S p.names) (λ l q. absurd (omega arith)) (λ l q. absurd (omega arith))
         (λ l q. absurd (omega arith)) (λ l q. absurd (omega arith)) (λ l q. absurd (omega arith)) (λ l q. absurd (omega arith))
-        (λ l q. absurd (omega arith)) (λ l q. absurd (omega arith)) (λ l q. nat_ok pool s.ready.sound r h q) (λ l q. str_ok pool s.ready.sound r h q)
+        (λ l q. absurd (omega arith)) (λ l q. absurd (omega arith)) (λ l q. nat_ok p sound r h q) (λ l q. str_ok p sound r h q)
         kind small g e
 
-    pub literal_strings : 8 ≤ kind → (string_word ns m 0 + string_word ns m 1 ≤ length bs) × (string_word ns n 0 + string_word ns n 1 ≤ length bs)
+    pub literal_strings : 8 ≤ kind → (string_word p.names m 0 + string_word p.names m 1 ≤ length p.bytes) × (string_word p.names n 0 + string_word p.names n 1 ≤ length p.bytes)
     literal_strings g = (
-      rw em (string_fits pool s.ready.sound (expr_word ws a 1) (literal a s.a_row (sym s.a_kind) g)),
-      rw en (string_fits pool s.ready.sound (expr_word ws b 1) (literal b s.b_row (sym s.b_kind) g)),
+      rw em (string_fits p sound (expr_word p.words a 1) (literal a s.a_row (sym s.a_kind) g)),
+      rw en (string_fits p sound (expr_word p.words b 1) (literal b s.b_row (sym s.b_kind) g)),
     )
 
-  pub const_lists : (x y : ℕ) → x ≡ expr_word ws a 2 → y ≡ expr_word ws b 2 → kind ≡ 2 → Ready bs ns ws t × (x < K ws) × (y < K ws)
+  pub const_lists : (x y : ℕ) → x ≡ expr_word p.words a 2 → y ≡ expr_word p.words b 2 → kind ≡ 2 → (x < K p.words) × (y < K p.words)
   const_lists x y ex ey e =
-      (s.ready, rw ex (const_ok pool s.ready.sound a s.a_row (at_a 2 e)).1, rw ey (const_ok pool s.ready.sound b s.b_row (at_b 2 e)).1)
+      (rw ex (const_ok p sound a s.a_row (at_a 2 e)).1, rw ey (const_ok p sound b s.b_row (at_b 2 e)).1)
 
 -- ---- all but the parts
 
-module _ (bs ns ws : List ℕ) (t : Tables) (ready : Ready bs ns ws t) (d a b c : ℕ) (ha : a < E ws) (hb : b < E ws) (q : ℕ)
-    (quick : Quick (trees_same (over bs ns ws) d c a b) (expr_word ws a 0 ≡ expr_word ws b 0) q) where
-  abbrev pool₅ : Pool
-  pool₅ = over bs ns ws
+module _ (p : Pool) (sound : Sound p) (d a b c : ℕ) (ha : a < E p.words) (hb : b < E p.words) (q : Option Bool)
+    (quick : Quick (trees_same p d c a b) (expr_word p.words a 0 ≡ expr_word p.words b 0) q) where
+  pub agree_quick : (q ≡ None → ⊥) → Quick (trees_same p d c a b) (ByParts p d c a b) q
+  agree_quick n = record { told = quick.told; left = λ e. absurd (n e) }
 
-  pub agree_quick : q < 2 → Quick (trees_same pool₅ d c a b) (ByParts pool₅ d c a b) q
-  agree_quick h =
-      record { different = quick.different; equal = quick.equal; left = λ m n. absurd (omega (arith, m, n)) }
+  module _ (none : q ≡ None) (kind : ℕ) (ek : kind ≡ expr_word p.words a 0) where
+    one : expr_word p.words a 0 ≡ expr_word p.words b 0
+    one = quick.left none
 
-  module _ (h : 2 ≤ q) (kind : ℕ) (ek : kind ≡ expr_word ws a 0) where
-    one : expr_word ws a 0 ≡ expr_word ws b 0
-    one = quick.left (λ e. omega arith) (λ e. omega arith)
+    pub agree_kind : OneKind p a b kind
+    agree_kind = record { a_row = ha; b_row = hb; a_kind = ek; b_kind = ek ∙ one }
 
-    pub agree_kind : OneKind bs ns ws t a b kind
-    agree_kind = record { ready = ready; a_row = ha; b_row = hb; a_kind = ek; b_kind = ek ∙ one }
+    by_fields : trees_same p d c a b ≡ fields_same p d c a b kind && parts_same p d c a b kind
+    by_fields = by_kind p sound a b ha hb d c kind (sym ek) (sym (ek ∙ one))
 
-    by_fields : trees_same pool₅ d c a b ≡ fields_same pool₅ d c a b kind && parts_same pool₅ d c a b kind
-    by_fields = by_kind pool₅ ready.sound a b ha hb d c kind (sym ek) (sym (ek ∙ one))
+    module _ (v : Bool) (ev : v ≡ fields_same p d c a b kind) where
+      pub agree_not : v ≡ false → Quick (trees_same p d c a b) (ByParts p d c a b) (Some false)
+      agree_not e = answered _ _ false (by_fields ∙ rw (← ev, e))
 
-    module _ (v : Bool) (ev : v ≡ fields_same pool₅ d c a b kind) where
-      pub agree_not : v ≡ false → Quick (trees_same pool₅ d c a b) (ByParts pool₅ d c a b) 0
-      agree_not e = they_differ _ _ (by_fields ∙ rw (← ev, e))
-
-      pub agree_open : v ≡ true → Quick (trees_same pool₅ d c a b) (ByParts pool₅ d c a b) 2
-      agree_open e = they_may _ _ (record { one = one; both = by_fields ∙ rw (← ev, e) (ap (parts_same pool₅ d c a b) ek) })
+      pub agree_open : v ≡ true → Quick (trees_same p d c a b) (ByParts p d c a b) None
+      agree_open e = they_may _ _ (record { one = one; both = by_fields ∙ rw (← ev, e) (ap (parts_same p d c a b) ek) })
 
 -- ---- the fields of each kind
 

@@ -1,14 +1,13 @@
 -- Laws of lists of levels that are compared all at once.
-use Prim.Native.Nat.{ℕ, zero, suc, ◌+◌, ◌-◌, ◌<◌}
+use Prim.Native.Nat.{ℕ, zero, suc, ◌+◌, ◌<◌}
 use native.Mathlib.Omega.{arith}
 use mathlib.Core.Bool.{Bool, true, false, ◌&&◌}
+use Rattle.std.specs.Prelude.{Option, Some}
 use mathlib.Core.List.{List}
 use mathlib.Core.Path.{◌≡◌, refl, sym, ap, ◌∙◌, subst}
 use borrow.Author.Count.{below_more}
 use Rattle.basics.proofs.Booleans.{and_both, not_so}
-use Rattle.pool.specs.declared.tables.Tables.{Tables}
 use Rattle.pool.specs.Tables.{Pool, list_entry}
-use Rattle.pool.specs.Areas.{over}
 use Rattle.pool.specs.Tree.{Shape, level_shapes, same_shape}
 use Rattle.pool.specs.Unfold.{levels_from}
 use Rattle.pool.proofs.TreeLaws.{shape_same, shape_equal}
@@ -16,7 +15,6 @@ use Rattle.links.specs.Links.{Clear, Linked, Settled}
 use Rattle.links.proofs.LinkLaws.{clear_owes}
 use Rattle.occurrence.specs.Asked.{Told}
 use Rattle.compare.specs.Equal.{levels_same, level_shape_at, lists_same, LinkedLists}
-use Rattle.compare.proofs.LevelLaws.{entry_differs}
 
 -- ---- what is owed of two lists
 
@@ -75,26 +73,10 @@ module _ (p : Pool) where
       moved x i ∙ lists_agreed n (suc x) (suc y) both.1 i (omega arith) ∙ sym (moved y i)
 
   -- a pass over what a clear array and two lists owe
-  pub told_lists : (x y n : ℕ) (before after : List ℕ) (v : ℕ) → Clear before → LinkedLists p.words before after x y n → Settled S after v
+  pub told_lists : (x y n : ℕ) (before after : List ℕ) (v : Option Bool) → Clear before → LinkedLists p.words before after x y n → Settled S after v
       → Told (lists_same p x y n) v
-  told_lists x y n before after v c l s =
-      record {
-        no = λ e. not_so _ (λ q. s.refuted e (l.up S (clear_owes _ _ before c) (lists_agreed n x y q)));
-        yes = λ e. lists_agree n x y (l.tied S (s.holds e));
-      }
-
--- ---- in few steps
-
--- a level that is not told to be equal ends the list
-pub entry_stops : (bs ns ws : List ℕ) (t : Tables) (x y n i : ℕ) (asked : Bool) → i < n → (l m : ℕ) → l ≡ list_entry ws (x + i)
-    → m ≡ list_entry ws (y + i) → lists_same (over bs ns ws) (x + i) (y + i) (n - i) ≡ asked → (v : ℕ) → Told (levels_same (over bs ns ws) l m) v
-    → (v ≡ 1 → ⊥) → Told asked v
-entry_stops bs ns ws t x y n i asked h l m el em s v told f =
-    record {
-      no = λ e. sym (entry_differs bs ns ws t x y n i asked h l m el em false (sym (told.no e)) s refl);
-      yes = λ e. absurd (f e);
-    }
-
--- all of them were
-pub told_all : (asked : Bool) → true ≡ asked → Told asked 1
-told_all asked e = record { no = λ q. absurd (omega arith); yes = λ q. sym e }
+  told_lists x y n before after v c l s = by
+    where
+      by : (b : Bool) → v ≡ Some b → lists_same p x y n ≡ b
+      by false e = not_so _ (λ q. s.refuted e (l.up S (clear_owes _ _ before c) (lists_agreed n x y q)))
+      by true e = lists_agree n x y (l.tied S (s.holds e))

@@ -1,57 +1,30 @@
 -- Laws of the equality of strings and names.
 use Prim.Native.Nat.{ℕ, zero, suc, ◌+◌, ◌-◌, ◌<◌, ◌≤◌}
 use native.Mathlib.Omega.{arith}
-use native.Mathlib.Numerals.{add-one}
 use mathlib.Core.Bool.{Bool, true, false, ◌&&◌}
-use mathlib.Core.List.{List}
+use mathlib.Core.List.{List, [], ◌∷◌}
 use mathlib.Core.Path.{◌≡◌, refl, sym, ap, ap₂, ◌∙◌}
-use lib.ListN.{length, get_or, take, drop}
-use lib.Seq.{drop-cons}
+use lib.ListN.{length, take, drop}
 use lib.Dec.{eqb}
-use borrow.Author.Tests.{eq-eqb, ne_eqb}
-use Rattle.basics.proofs.Booleans.{and-true, not_so}
+use lib.Pointwise.{pointwise}
+use Rattle.basics.proofs.Booleans.{and-true}
 use Rattle.utf8.specs.Letterlike.{same_bytes}
-use Rattle.pool.specs.declared.tables.Tables.{Tables}
-use Rattle.pool.specs.Tables.{N, name_word, string_word, string_at}
-use Rattle.pool.specs.Areas.{over}
+use Rattle.pool.specs.Tables.{Pool, N, name_word, string_word, string_at}
 use Rattle.pool.specs.Tree.{Name, anonymous, Shape, name_shape, same_shape}
 use Rattle.pool.specs.Unfold.{name_at}
-use Rattle.pool.proofs.Clips.{drop_all}
-use Rattle.pool.proofs.TreeLaws.{bytes_equal, bytes_same, shape_same, labels_differ}
+use Rattle.pool.proofs.TreeLaws.{bytes_same, shape_same, labels_differ}
 use Rattle.pool.proofs.RowUnfolds.{anonymous_at, string_at_lem, number_at, string_ok_lem, number_ok, name_kind_small, name_label_word, string_fits}
-use Rattle.pool.specs.Ready.{Ready}
+use Rattle.pool.specs.Sound.{Sound}
 use Rattle.compare.specs.Equal.{string_of, number_of, TwoNames, ends_same}
 
 -- ---- strings
 
-pub bytes_differ : (x y : List ℕ) → (length x ≡ length y → ⊥) → false ≡ same_bytes x y
-bytes_differ x y n = sym (not_so (same_bytes x y) (λ q. n (ap length (bytes_equal x y q))))
-
-module _ (x y : List ℕ) (i : ℕ) (hx : i < length x) (hy : i < length y) (v : Bool) where
-  bytes_next : same_bytes (drop i x) (drop i y) ≡ eqb (get_or x i 0) (get_or y i 0) && same_bytes (drop (i + 1) x) (drop (i + 1) y)
-  unfolding same_bytes
-  bytes_next = rw (add-one i) (ap₂ same_bytes (drop-cons x i 0 hx) (drop-cons y i 0 hy))
-
-  pub bytes_on : get_or x i 0 ≡ get_or y i 0 → same_bytes (drop i x) (drop i y) ≡ v → same_bytes (drop (i + 1) x) (drop (i + 1) y) ≡ v
-  bytes_on e s = sym (bytes_next ∙ ap (λ (b : Bool). b && same_bytes (drop (i + 1) x) (drop (i + 1) y)) (eq-eqb _ _ e)) ∙ s
-
-  pub bytes_off : (get_or x i 0 ≡ get_or y i 0 → ⊥) → same_bytes (drop i x) (drop i y) ≡ v → false ≡ v
-  bytes_off n s = sym (bytes_next ∙ ap (λ (b : Bool). b && same_bytes (drop (i + 1) x) (drop (i + 1) y)) (ne_eqb _ _ n)) ∙ s
-
--- equal bytes may be passed many at a time
-pub bytes_past : (x y : List ℕ) (i n : ℕ) (v : Bool) → i + n ≤ length x → i + n ≤ length y
-    → ((k : ℕ) → k < n → get_or x (i + k) 0 ≡ get_or y (i + k) 0)
-    → same_bytes (drop i x) (drop i y) ≡ v → same_bytes (drop (i + n) x) (drop (i + n) y) ≡ v
-bytes_past x y i zero v hx hy e s = let none : i + 0 ≡ i = omega arith in rw none s
-bytes_past x y i (suc n) v hx hy e s =
-    let one : i + suc n ≡ i + n + 1 = omega arith in
-    let before : same_bytes (drop (i + n) x) (drop (i + n) y) ≡ v =
-    bytes_past x y i n v (omega arith) (omega arith) (λ k h. e k (omega arith)) s in
-    rw one (bytes_on x y (i + n) (omega arith) (omega arith) v (e n (omega arith)) before)
-
-pub bytes_end : (x y : List ℕ) (i : ℕ) (v : Bool) → length x ≤ i → length y ≤ i → same_bytes (drop i x) (drop i y) ≡ v → true ≡ v
+pub same_pointwise : (x y : List ℕ) → pointwise eqb x y ≡ same_bytes x y
 unfolding same_bytes
-bytes_end x y i v hx hy s = sym (ap₂ same_bytes (drop_all i x hx) (drop_all i y hy)) ∙ s
+same_pointwise [] [] = refl
+same_pointwise [] (b ∷ y) = refl
+same_pointwise (a ∷ x) [] = refl
+same_pointwise (a ∷ x) (b ∷ y) = ap (λ (v : Bool). eqb a b && v) (same_pointwise x y)
 
 pub strings_same : (bs ns : List ℕ) (a b : ℕ) → a ≡ b → true ≡ same_bytes (string_of bs ns a) (string_of bs ns b)
 strings_same bs ns a b e =
@@ -75,24 +48,24 @@ one_or_two P p q (suc zero) n h = p
 one_or_two P p q (suc (suc zero)) n h = q
 one_or_two P p q (suc (suc (suc k))) n h = absurd (omega arith)
 
-module _ (bs ns ws : List ℕ) (t : Tables) (kind a b : ℕ) (s : TwoNames bs ns ws t kind a b) where
+module _ (p : Pool) (sound : Sound p) (kind a b : ℕ) (s : TwoNames p kind a b) where
   abbrev name_of : ℕ → Shape
-  name_of r = name_shape (name_at (over bs ns ws) r)
+  name_of r = name_shape (name_at p r)
 
   abbrev wa : ℕ → ℕ
-  wa k = name_word ns a k
+  wa k = name_word p.names a k
 
   abbrev wb : ℕ → ℕ
-  wb k = name_word ns b k
+  wb k = name_word p.names b k
 
   kind_below : kind < 3
-  kind_below = rw s.a_kind (name_kind_small (over bs ns ws) s.ready.sound a s.a_row)
+  kind_below = rw s.a_kind (name_kind_small p sound a s.a_row)
 
   -- the strings' rows
-  pub string_rows : kind ≡ 1 → (string_word ns (wa 2) 0 + string_word ns (wa 2) 1 ≤ length bs) × (string_word ns (wb 2) 0 + string_word ns (wb 2) 1 ≤ length bs)
+  pub string_rows : kind ≡ 1 → (string_word p.names (wa 2) 0 + string_word p.names (wa 2) 1 ≤ length p.bytes) × (string_word p.names (wb 2) 0 + string_word p.names (wb 2) 1 ≤ length p.bytes)
   string_rows e = (
-    string_fits (over bs ns ws) s.ready.sound (wa 2) (string_ok_lem (over bs ns ws) s.ready.sound a s.a_row (sym s.a_kind ∙ e)).1,
-    string_fits (over bs ns ws) s.ready.sound (wb 2) (string_ok_lem (over bs ns ws) s.ready.sound b s.b_row (sym s.b_kind ∙ e)).1,
+    string_fits p sound (wa 2) (string_ok_lem p sound a s.a_row (sym s.a_kind ∙ e)).1,
+    string_fits p sound (wb 2) (string_ok_lem p sound b s.b_row (sym s.b_kind ∙ e)).1,
   )
 
   -- the prefixes are lower
@@ -100,63 +73,62 @@ module _ (bs ns ws : List ℕ) (t : Tables) (kind a b : ℕ) (s : TwoNames bs ns
   prefixes =
       one_or_two (λ (k : ℕ). kind ≡ k → (wa 1 < a) × (wb 1 < b))
       (λ e. (
-        (string_ok_lem (over bs ns ws) s.ready.sound a s.a_row (sym s.a_kind ∙ e)).0,
-        (string_ok_lem (over bs ns ws) s.ready.sound b s.b_row (sym s.b_kind ∙ e)).0,
+        (string_ok_lem p sound a s.a_row (sym s.a_kind ∙ e)).0,
+        (string_ok_lem p sound b s.b_row (sym s.b_kind ∙ e)).0,
       ))
       (λ e. (
-        number_ok (over bs ns ws) s.ready.sound a s.a_row (sym s.a_kind ∙ e),
-        number_ok (over bs ns ws) s.ready.sound b s.b_row (sym s.b_kind ∙ e),
+        number_ok p sound a s.a_row (sym s.a_kind ∙ e),
+        number_ok p sound b s.b_row (sym s.b_kind ∙ e),
       ))
       kind s.no_root kind_below refl
 
-  by_string : kind ≡ 1 → same_shape (name_of a) (name_of b) ≡ ends_same bs ns 1 a b && same_shape (name_of (wa 1)) (name_of (wb 1))
+  by_string : kind ≡ 1 → same_shape (name_of a) (name_of b) ≡ ends_same p.bytes p.names 1 a b && same_shape (name_of (wa 1)) (name_of (wb 1))
   unfolding ends_same name_shape same_shape string_at
   by_string e =
       rw (
-        string_at_lem (over bs ns ws) s.ready.sound a s.a_row (sym s.a_kind ∙ e),
-        string_at_lem (over bs ns ws) s.ready.sound b s.b_row (sym s.b_kind ∙ e),
+        string_at_lem p sound a s.a_row (sym s.a_kind ∙ e),
+        string_at_lem p sound b s.b_row (sym s.b_kind ∙ e),
         and-true (same_shape (name_of (wa 1)) (name_of (wb 1))),
       )
 
-  by_number : kind ≡ 2 → same_shape (name_of a) (name_of b) ≡ ends_same bs ns 2 a b && same_shape (name_of (wa 1)) (name_of (wb 1))
+  by_number : kind ≡ 2 → same_shape (name_of a) (name_of b) ≡ ends_same p.bytes p.names 2 a b && same_shape (name_of (wa 1)) (name_of (wb 1))
   unfolding ends_same name_shape same_shape same_bytes
   by_number e =
       rw (
-        number_at (over bs ns ws) s.ready.sound a s.a_row (sym s.a_kind ∙ e),
-        number_at (over bs ns ws) s.ready.sound b s.b_row (sym s.b_kind ∙ e),
+        number_at p sound a s.a_row (sym s.a_kind ∙ e),
+        number_at p sound b s.b_row (sym s.b_kind ∙ e),
         and-true (same_shape (name_of (wa 1)) (name_of (wb 1))),
-        and-true (eqb (number_of ns a) (number_of ns b)),
+        and-true (eqb (number_of p.names a) (number_of p.names b)),
       )
 
-  by_ends : same_shape (name_of a) (name_of b) ≡ ends_same bs ns kind a b && same_shape (name_of (wa 1)) (name_of (wb 1))
+  by_ends : same_shape (name_of a) (name_of b) ≡ ends_same p.bytes p.names kind a b && same_shape (name_of (wa 1)) (name_of (wb 1))
   by_ends =
-      one_or_two (λ (k : ℕ). kind ≡ k → same_shape (name_of a) (name_of b) ≡ ends_same bs ns k a b && same_shape (name_of (wa 1)) (name_of (wb 1)))
+      one_or_two (λ (k : ℕ). kind ≡ k → same_shape (name_of a) (name_of b) ≡ ends_same p.bytes p.names k a b && same_shape (name_of (wa 1)) (name_of (wb 1)))
       by_string by_number kind s.no_root kind_below refl
 
-  pub ends_differ : (e : Bool) → e ≡ ends_same bs ns kind a b → e ≡ false → (v : Bool) → same_shape (name_of a) (name_of b) ≡ v → false ≡ v
+  pub ends_differ : (e : Bool) → e ≡ ends_same p.bytes p.names kind a b → e ≡ false → (v : Bool) → same_shape (name_of a) (name_of b) ≡ v → false ≡ v
   ends_differ e q n v h = sym (by_ends ∙ ap (λ (x : Bool). x && same_shape (name_of (wa 1)) (name_of (wb 1))) (sym q ∙ n)) ∙ h
 
-  pub ends_same_lem : (e : Bool) → e ≡ ends_same bs ns kind a b → e ≡ true → (v : Bool) → same_shape (name_of a) (name_of b) ≡ v
+  pub ends_same_lem : (e : Bool) → e ≡ ends_same p.bytes p.names kind a b → e ≡ true → (v : Bool) → same_shape (name_of a) (name_of b) ≡ v
       → (x y : ℕ) → x ≡ wa 1 → y ≡ wb 1 → same_shape (name_of x) (name_of y) ≡ v
   ends_same_lem e q n v h x y ex ey =
       ap₂ (λ (i j : ℕ). same_shape (name_of i) (name_of j)) ex ey
       ∙ sym (by_ends ∙ ap (λ (z : Bool). z && same_shape (name_of (wa 1)) (name_of (wb 1))) (sym q ∙ n)) ∙ h
 
-module _ (bs ns ws : List ℕ) (t : Tables) (a b : ℕ) (ready : Ready bs ns ws t) (ha : a < N ns) (hb : b < N ns) (v : Bool)
-    (h : same_shape (name_shape (name_at (over bs ns ws) a)) (name_shape (name_at (over bs ns ws) b)) ≡ v) where
-  pub kinds_differ : (x y : ℕ) → x ≡ name_word ns a 0 → y ≡ name_word ns b 0 → (x ≡ y → ⊥) → false ≡ v
+module _ (p : Pool) (sound : Sound p) (a b : ℕ) (ha : a < N p.names) (hb : b < N p.names) (v : Bool)
+    (h : same_shape (name_shape (name_at p a)) (name_shape (name_at p b)) ≡ v) where
+  pub kinds_differ : (x y : ℕ) → x ≡ name_word p.names a 0 → y ≡ name_word p.names b 0 → (x ≡ y → ⊥) → false ≡ v
   kinds_differ x y ex ey n =
-      sym (labels_differ _ _ (λ q. n (ex ∙ sym (name_label_word (over bs ns ws) ready.sound a ha) ∙ q ∙ name_label_word (over bs ns ws) ready.sound b hb ∙ sym ey))) ∙ h
+      sym (labels_differ _ _ (λ q. n (ex ∙ sym (name_label_word p sound a ha) ∙ q ∙ name_label_word p sound b hb ∙ sym ey))) ∙ h
 
-  pub both_roots : (x y : ℕ) → x ≡ name_word ns a 0 → y ≡ name_word ns b 0 → x ≡ y → x ≡ 0 → true ≡ v
+  pub both_roots : (x y : ℕ) → x ≡ name_word p.names a 0 → y ≡ name_word p.names b 0 → x ≡ y → x ≡ 0 → true ≡ v
   both_roots x y ex ey e z =
-      sym (ap₂ (λ (m n : Name). same_shape (name_shape m) (name_shape n)) (anonymous_at (over bs ns ws) ready.sound a ha (sym ex ∙ z))
-      (anonymous_at (over bs ns ws) ready.sound b hb (sym ey ∙ sym e ∙ z)) ∙ shape_same (name_shape anonymous)) ∙ h
+      sym (ap₂ (λ (m n : Name). same_shape (name_shape m) (name_shape n)) (anonymous_at p sound a ha (sym ex ∙ z))
+      (anonymous_at p sound b hb (sym ey ∙ sym e ∙ z)) ∙ shape_same (name_shape anonymous)) ∙ h
 
   pub same_row : a ≡ b → true ≡ v
-  same_row e = sym (ap (λ (r : ℕ). same_shape (name_shape (name_at (over bs ns ws) r)) (name_shape (name_at (over bs ns ws) b))) e ∙ shape_same _) ∙ h
+  same_row e = sym (ap (λ (r : ℕ). same_shape (name_shape (name_at p r)) (name_shape (name_at p b))) e ∙ shape_same _) ∙ h
 
-pub two_names : (bs ns ws : List ℕ) (t : Tables) (kind kind' a b : ℕ) → Ready bs ns ws t → a < N ns → b < N ns → kind ≡ name_word ns a 0
-    → kind' ≡ name_word ns b 0 → kind ≡ kind' → (kind ≡ 0 → ⊥) → TwoNames bs ns ws t kind a b
-two_names bs ns ws t kind kind' a b ready ha hb ea eb e n =
-    record { ready = ready; a_row = ha; b_row = hb; a_kind = ea; b_kind = e ∙ eb; no_root = n }
+pub two_names : (p : Pool) (kind kind' a b : ℕ) → a < N p.names → b < N p.names → kind ≡ name_word p.names a 0 → kind' ≡ name_word p.names b 0
+    → kind ≡ kind' → (kind ≡ 0 → ⊥) → TwoNames p kind a b
+two_names p kind kind' a b ha hb ea eb e n = record { a_row = ha; b_row = hb; a_kind = ea; b_kind = e ∙ eb; no_root = n }

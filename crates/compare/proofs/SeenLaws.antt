@@ -3,13 +3,14 @@ use Prim.Native.Nat.{ℕ, zero, suc, ◌+◌, ◌*◌, ◌<◌, ◌≤◌}
 use native.Mathlib.Omega.{arith}
 use mathlib.Core.Bool.{Bool, true, false, cond}
 use mathlib.Core.List.{List}
+use Rattle.std.specs.Prelude.{Option, Some, None}
 use mathlib.Core.Path.{◌≡◌, refl, sym, ap, ◌∙◌, subst}
 use lib.ListN.{length, get_or, set, replicate}
 use lib.Seq.{set_out, get_or-set_same, get_or-set_other}
 use lib.Dec.{ltb, eqb}
 use borrow.Author.Tests.{ltb-true, ltb-false, eqb-true, eqb-false}
 use Rattle.basics.proofs.Booleans.{and_right, false-true}
-use Rattle.compare.specs.Seen.{packed, is_held, Holds}
+use Rattle.compare.specs.Seen.{packed, is_held, with_key, Holds}
 
 -- a key and the numbers that it stands for
 record Fit (a b c k : ℕ) : Type 0 where
@@ -18,25 +19,25 @@ record Fit (a b c k : ℕ) : Type 0 where
   c_fits : c < 16384
   is : k ≡ (a * 16777216 + b) * 16384 + c + 1
 
-fit : (a b c m : ℕ) → packed a b c ≡ suc m → Fit a b c (suc m)
+fit : (a b c k : ℕ) → packed a b c ≡ Some k → Fit a b c k
 unfolding packed
-fit a b c m e = at_a (ltb a 16777216) refl e
+fit a b c k e = at_a (ltb a 16777216) refl e
   where
     value : ℕ
     value = (a * 16777216 + b) * 16384 + c + 1
 
-    at_c : (x : Bool) → ltb a 16777216 ≡ true → ltb b 16777216 ≡ true → ltb c 16384 ≡ x → cond x value 0 ≡ suc m → Fit a b c (suc m)
+    at_c : (x : Bool) → ltb a 16777216 ≡ true → ltb b 16777216 ≡ true → ltb c 16384 ≡ x → cond x (Some value) None ≡ Some k → Fit a b c k
     at_c true p q r h =
-        record { a_fits = ltb-true a 16777216 p; b_fits = ltb-true b 16777216 q; c_fits = ltb-true c 16384 r; is = sym h }
-    at_c false p q r h = absurd (omega arith)
+        record { a_fits = ltb-true a 16777216 p; b_fits = ltb-true b 16777216 q; c_fits = ltb-true c 16384 r; is = cc }
+    at_c false p q r h = cc
 
-    at_b : (x : Bool) → ltb a 16777216 ≡ true → ltb b 16777216 ≡ x → cond x (cond (ltb c 16384) value 0) 0 ≡ suc m → Fit a b c (suc m)
+    at_b : (x : Bool) → ltb a 16777216 ≡ true → ltb b 16777216 ≡ x → cond x (cond (ltb c 16384) (Some value) None) None ≡ Some k → Fit a b c k
     at_b true p q h = at_c (ltb c 16384) p q refl h
-    at_b false p q h = absurd (omega arith)
+    at_b false p q h = cc
 
-    at_a : (x : Bool) → ltb a 16777216 ≡ x → cond x (cond (ltb b 16777216) (cond (ltb c 16384) value 0) 0) 0 ≡ suc m → Fit a b c (suc m)
+    at_a : (x : Bool) → ltb a 16777216 ≡ x → cond x (cond (ltb b 16777216) (cond (ltb c 16384) (Some value) None) None) None ≡ Some k → Fit a b c k
     at_a true p h = at_b (ltb b 16777216) p refl h
-    at_a false p h = absurd (omega arith)
+    at_a false p h = cc
 
 -- numbers are equal where what they make together is
 split : (a b a' b' : ℕ) → b < 16777216 → b' < 16777216 → a * 16777216 + b ≡ a' * 16777216 + b' → (a ≡ a') × (b ≡ b')
@@ -64,10 +65,10 @@ split_low u c u' c' h h' e = by (ltb u u') refl (ltb u' u) refl
         (s, omega arith)
 
 -- a key stands for one triple
-pub packed-one : (a b c a' b' c' m : ℕ) → packed a b c ≡ suc m → packed a' b' c' ≡ suc m → (a ≡ a') × (b ≡ b') × (c ≡ c')
-packed-one a b c a' b' c' m e e' =
-    let f : Fit a b c (suc m) = fit a b c m e in
-    let f' : Fit a' b' c' (suc m) = fit a' b' c' m e' in
+pub packed-one : (a b c a' b' c' k : ℕ) → packed a b c ≡ Some k → packed a' b' c' ≡ Some k → (a ≡ a') × (b ≡ b') × (c ≡ c')
+packed-one a b c a' b' c' k e e' =
+    let f : Fit a b c k = fit a b c k e in
+    let f' : Fit a' b' c' k = fit a' b' c' k e' in
     let low : (a * 16777216 + b ≡ a' * 16777216 + b') × (c ≡ c') =
     split_low (a * 16777216 + b) c (a' * 16777216 + b') c' f.c_fits f'.c_fits (sym f.is ∙ f'.is) in
     let high : (a ≡ a') × (b ≡ b') = split a b a' b' f.b_fits f'.b_fits low.0 in
@@ -85,24 +86,28 @@ module _ (P : ℕ → ℕ → ℕ → Type 0) where
   zeros (suc n) (suc j) = zeros n j
 
   pub holds_none : (n : ℕ) → Holds P (replicate n 0)
-  holds_none n j a b c m e k = absurd (let z : 0 ≡ suc m = sym (zeros n j) ∙ e in omega arith)
+  holds_none n j a b c e =
+      let f : Fit a b c 0 = fit a b c 0 (e ∙ ap (λ (k : ℕ). Some k) (zeros n j)) in
+      absurd (omega (arith, f.is))
 
   -- what the slot holds is true
-  pub holds_hit : (seen : List ℕ) (slot k a b c : ℕ) → Holds P seen → k ≡ packed a b c → is_held seen slot k ≡ true → P a b c
-  holds_hit seen slot zero a b c h e y = false-true y
-  holds_hit seen slot (suc m) a b c h e y =
-      h slot a b c m (eqb-true (get_or seen slot 0) (suc m) (and_right (ltb 0 (suc m)) _ y)) (sym e)
+  pub holds_hit : (seen : List ℕ) (slot : ℕ) (key : Option ℕ) (a b c : ℕ) → Holds P seen → key ≡ packed a b c → is_held seen slot key ≡ true → P a b c
+  holds_hit seen slot None a b c h e y = false-true y
+  holds_hit seen slot (Some k) a b c h e y =
+      let there : get_or seen slot 0 ≡ k = eqb-true (get_or seen slot 0) k (and_right (ltb slot (length seen)) _ y) in
+      h slot a b c (sym e ∙ ap (λ (i : ℕ). Some i) (sym there))
 
   -- one more that is true
-  pub holds_put : (seen : List ℕ) (slot k a b c : ℕ) → Holds P seen → k ≡ packed a b c → P a b c → Holds P (set seen slot k)
-  holds_put seen slot k a b c h e y j a' b' c' m q q' = there (eqb j slot) refl (ltb slot (length seen)) refl
+  pub holds_put : (seen : List ℕ) (slot : ℕ) (key : Option ℕ) (a b c : ℕ) → Holds P seen → key ≡ packed a b c → P a b c → Holds P (with_key seen slot key)
+  holds_put seen slot None a b c h e y j a' b' c' q = h j a' b' c' q
+  holds_put seen slot (Some k) a b c h e y j a' b' c' q = there (eqb j slot) refl (ltb slot (length seen)) refl
     where
       there : (x : Bool) → eqb j slot ≡ x → (z : Bool) → ltb slot (length seen) ≡ z → P a' b' c'
-      there false p z r = h j a' b' c' m (sym (get_or-set_other seen slot j k 0 (eqb-false j slot p)) ∙ q) q'
+      there false p z r = h j a' b' c' (q ∙ ap (λ (i : ℕ). Some i) (get_or-set_other seen slot j k 0 (eqb-false j slot p)))
       there true p false r =
-          h j a' b' c' m (ap (λ (l : List ℕ). get_or l j 0) (sym (set_out seen slot k (ltb-false slot (length seen) r))) ∙ q) q'
+          h j a' b' c' (q ∙ ap (λ (l : List ℕ). Some (get_or l j 0)) (set_out seen slot k (ltb-false slot (length seen) r)))
       there true p true r =
           let v : get_or (set seen slot k) slot 0 ≡ k = get_or-set_same seen slot k 0 (ltb-true slot (length seen) r) in
           let w : get_or (set seen slot k) j 0 ≡ k = ap (λ (i : ℕ). get_or (set seen slot k) i 0) (eqb-true j slot p) ∙ v in
-          let one : (a ≡ a') × (b ≡ b') × (c ≡ c') = packed-one a b c a' b' c' m (sym e ∙ sym w ∙ q) q' in
+          let one : (a ≡ a') × (b ≡ b') × (c ≡ c') = packed-one a b c a' b' c' k (sym e) (q ∙ ap (λ (i : ℕ). Some i) w) in
           carried a b c a' b' c' one.0 one.1 one.2 y

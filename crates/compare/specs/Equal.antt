@@ -1,10 +1,8 @@
 -- Equality of two rows, by the fields that are no parts and by the parts.
-use Rattle.std.specs.Prelude.{ℕ, zero, suc, ◌+◌, ◌*◌, ◌<◌, ◌≤◌, Bool, true, false, ◌&&◌, cond, List, ◌≡◌, ltb, eqb, take, drop}
+use Rattle.std.specs.Prelude.{ℕ, zero, suc, ◌+◌, ◌*◌, ◌<◌, ◌≤◌, Bool, true, false, ◌&&◌, cond, List, ◌≡◌, ltb, eqb, take, drop, Option, None}
 use Rattle.utf8.specs.Letterlike.{same_bytes}
-use Rattle.pool.specs.declared.tables.Tables.{Tables}
+use Rattle.occurrence.specs.Asked.{Told}
 use Rattle.pool.specs.Tables.{Pool, N, L, Q, E, string_word, name_word, level_word, list_entry, expr_word}
-use Rattle.pool.specs.Areas.{over}
-use Rattle.pool.specs.Ready.{Ready}
 use Rattle.pool.specs.Tree.{Shape, name_shape, level_shape, level_shapes, same_shape, same_shapes, lift, same}
 use Rattle.pool.specs.Unfold.{name_at, level_at, levels_from, list_at, expr_at}
 use Rattle.links.specs.Links.{Owes}
@@ -20,12 +18,11 @@ abbrev pub number_of : List ℕ → ℕ → ℕ
 number_of ns r = name_word ns r 2 + name_word ns r 3 * 4294967296
 
 -- two name rows of one kind, which is not 0
-pub record TwoNames (bs ns ws : List ℕ) (t : Tables) (kind a b : ℕ) : Type 0 where
-  pub ready : Ready bs ns ws t
-  pub a_row : a < N ns
-  pub b_row : b < N ns
-  pub a_kind : kind ≡ name_word ns a 0
-  pub b_kind : kind ≡ name_word ns b 0
+pub record TwoNames (p : Pool) (kind a b : ℕ) : Type 0 where
+  pub a_row : a < N p.names
+  pub b_row : b < N p.names
+  pub a_kind : kind ≡ name_word p.names a 0
+  pub b_kind : kind ≡ name_word p.names b 0
   pub no_root : kind ≡ 0 → ⊥
 
 -- whether their last parts are equal
@@ -33,11 +30,10 @@ unfoldable pub ends_same : List ℕ → List ℕ → ℕ → ℕ → ℕ → Boo
 ends_same bs ns kind a b =
     cond (eqb kind 1) (same_bytes (string_of bs ns (name_word ns a 2)) (string_of bs ns (name_word ns b 2))) (eqb (number_of ns a) (number_of ns b))
 
--- what a first look at two rows finds: 0, they differ; 1, they are equal; else what is left to look at
-pub record Quick (asked : Bool) (Open : Type 0) (v : ℕ) : Type 0 where
-  pub different : v ≡ 0 → asked ≡ false
-  pub equal : v ≡ 1 → asked ≡ true
-  pub left : (v ≡ 0 → ⊥) → (v ≡ 1 → ⊥) → Open
+-- what a first look at two rows finds: whether they are equal, or what is left to look at
+pub record Quick (asked : Bool) (Open : Type 0) (v : Option Bool) : Type 0 where
+  pub told : Told asked v
+  pub left : v ≡ None → Open
 
 -- what a comparison answers, and what was answered after it
 pub record Compared (P : ℕ → ℕ → ℕ → Type 0) (asked : Bool) (known : List ℕ) (v : Bool) : Type 0 where
@@ -66,20 +62,18 @@ pub record Branches (p : Pool) (a b : ℕ) : Type 0 where
   pub both : levels_same p a b
       ≡ levels_same p (level_word p.words a 1) (level_word p.words b 1) && levels_same p (level_word p.words a 2) (level_word p.words b 2)
 
-pub record TwoLevels (bs ns ws : List ℕ) (t : Tables) (known : List ℕ) (a b : ℕ) : Type 0 where
-  pub ready : Ready bs ns ws t
-  pub a_row : a < L ws
-  pub b_row : b < L ws
-  pub holds : Holds (EqualLevels (over bs ns ws)) known
+pub record TwoLevels (p : Pool) (known : List ℕ) (a b : ℕ) : Type 0 where
+  pub a_row : a < L p.words
+  pub b_row : b < L p.words
+  pub holds : Holds (EqualLevels p) known
 
 -- n list words from x on and from y on
 abbrev pub lists_same : Pool → ℕ → ℕ → ℕ → Bool
 lists_same p x y n = same_shapes (level_shapes (levels_from p x n)) (level_shapes (levels_from p y n))
 
-pub record TwoLists (bs ns ws : List ℕ) (t : Tables) (x y n : ℕ) : Type 0 where
-  pub ready : Ready bs ns ws t
-  pub x_fits : x + n ≤ Q ws
-  pub y_fits : y + n ≤ Q ws
+pub record TwoLists (p : Pool) (x y n : ℕ) : Type 0 where
+  pub x_fits : x + n ≤ Q p.words
+  pub y_fits : y + n ≤ Q p.words
 
 -- what was owed, and the n levels from the list words x and y on to be equal, is owed now, and nothing else
 pub record LinkedLists (ws before after : List ℕ) (x y n : ℕ) : Type 0 where
@@ -132,9 +126,8 @@ pub record ByParts (p : Pool) (d c a b : ℕ) : Type 0 where
   pub both : trees_same p d c a b ≡ parts_same p d c a b (expr_word p.words a 0)
 
 -- two rows of one kind
-pub record OneKind (bs ns ws : List ℕ) (t : Tables) (a b kind : ℕ) : Type 0 where
-  pub ready : Ready bs ns ws t
-  pub a_row : a < E ws
-  pub b_row : b < E ws
-  pub a_kind : kind ≡ expr_word ws a 0
-  pub b_kind : kind ≡ expr_word ws b 0
+pub record OneKind (p : Pool) (a b kind : ℕ) : Type 0 where
+  pub a_row : a < E p.words
+  pub b_row : b < E p.words
+  pub a_kind : kind ≡ expr_word p.words a 0
+  pub b_kind : kind ≡ expr_word p.words b 0

@@ -1,7 +1,6 @@
 // Equality of strings, names, levels and lists of levels, and of all fields of two rows but their parts.
 #![tactic(auto)]
 
-mod bytes;
 pub mod levels;
 pub mod lists;
 pub mod names;

@@ -1,61 +1,63 @@
 -- Laws of the call: what each of its ends answers.
-use Prim.Native.Nat.{ℕ, ◌<◌}
+use Prim.Native.Nat.{ℕ, ◌<◌, ◌≤◌}
 use mathlib.Core.Bool.{Bool, true, false, ◌&&◌}
 use mathlib.Core.List.{List}
-use mathlib.Core.Path.{◌≡◌, refl, sym, ap, ◌∙◌}
-use lib.Dec.{ltb, eqb}
-use borrow.Author.Tests.{ltb-true}
-use Rattle.basics.proofs.Booleans.{and_both}
-use Rattle.pool.specs.declared.tables.Tables.{Tables}
-use Rattle.pool.specs.Tables.{E, pool}
-use Rattle.pool.specs.Areas.{TablesOf}
-use Rattle.pool.specs.Ready.{Ready}
-use Rattle.pool_check.specs.declared.Verdict.{Verdict}
-use Rattle.pool_check.specs.Check.{is_accepted, verdict}
-use Rattle.pool_check.proofs.Acceptance.{accepted, accepted_is}
+use mathlib.Core.Path.{◌≡◌, refl, sym, ap, ◌∙◌, subst}
+use lib.Dec.{ltb}
+use borrow.Author.Tests.{lt-ltb, le-ltb}
+use Rattle.basics.proofs.Booleans.{and_intro, and-false}
+use Rattle.std.specs.Prelude.{Option, Some, None, Result, Ok, Err}
+use Rattle.std.specs.Result.{IsErrAnd}
+use Rattle.pool.specs.Tables.{Pool, E, pool}
+use Rattle.pool_check.specs.declared.PoolError.{PoolError}
+use Rattle.pool_check.specs.Check.{verdict}
+use Rattle.difference.specs.declared.walk.Found.{Found}
+use Rattle.difference.specs.declared.walk.Found.TheVariants.{Differ, Equal, Unknown}
 use Rattle.difference.specs.Order.{first_pair}
 use Rattle.difference.specs.Walks.{Compares}
-use Rattle.comparison.specs.declared.Compared.TheVariants.{Equal, Differ, Pool, Root}
-use Rattle.comparison.specs.Call.{answer_of, decided, comparison}
+use Rattle.comparison.specs.declared.error.CompareError.TheVariants.{Root}
+use Rattle.comparison.specs.declared.error.CompareError.TheVariants as errors
+use Rattle.comparison.specs.Call.{Answer, answer_of, decided, comparison}
 
-module _ (bs ws : List ℕ) (first second : ℕ) (v : Verdict) (ev : v ≡ verdict bs ws) (r : Bool) (er : r ≡ is_accepted v) where
-  judged : is_accepted (verdict bs ws) ≡ r
-  judged = sym (er ∙ ap is_accepted ev)
+-- what `?` hands on
+pub err_is : {A E : Type 0} (r : Result A E) (e : E) → IsErrAnd r (λ d. d ≡ e) → r ≡ Err e
+err_is (Ok a) e h = absurd h
+err_is (Err d) e h = ap (λ (x : _). Err x) h
 
-  pub pool_refused : r ≡ false → Pool v ≡ comparison bs ws first second
+-- a row that is not there
+pub first_missing : (first second n : ℕ) → n ≤ first → ltb first n && ltb second n ≡ false
+first_missing first second n h = rw (le-ltb first n h)
+
+pub second_missing : (first second n : ℕ) → n ≤ second → ltb first n && ltb second n ≡ false
+second_missing first second n h = rw (le-ltb second n h) (and-false (ltb first n))
+
+module _ (bs ws : List ℕ) (first second : ℕ) where
+  pub pool_refused : (e : PoolError) → verdict bs ws ≡ Err e → Err (errors.Pool e) ≡ comparison bs ws first second
   unfolding comparison decided
-  pool_refused e = ap Pool ev ∙ sym (rw (judged ∙ e))
+  pool_refused e v = rw v
 
-  module _ (t : Tables) (tables : TablesOf ws ws t) (q : Bool) (eq : q ≡ ltb first t.exprs && ltb second t.exprs) (y : r ≡ true) where
-    present : ltb first (E ws) && ltb second (E ws) ≡ q
-    present = ap (λ (n : ℕ). ltb first n && ltb second n) (sym tables.of_words.exprs) ∙ sym eq
-
-    pub row_missing : q ≡ false → Root ≡ comparison bs ws first second
+  module _ (v : verdict bs ws ≡ Ok tt) where
+    pub row_missing : ltb first (E ws) && ltb second (E ws) ≡ false → Err Root ≡ comparison bs ws first second
     unfolding comparison decided
-    row_missing e = sym (rw (judged ∙ y, present ∙ e))
+    row_missing e = rw (v, e)
 
-    module _ (z : q ≡ true) where
-      pub ask_compare : (Ready bs ws ws t) × (first < E ws) × (second < E ws)
-      ask_compare =
-          let h = and_both (ltb first (E ws)) (ltb second (E ws)) (present ∙ z) in (
-            record { sound = (accepted bs ws (sym ev ∙ accepted_is v (sym er ∙ y))).1; tables = tables },
-            ltb-true first (E ws) h.0,
-            ltb-true second (E ws) h.1,
-          )
+    module _ (q : Pool) (same : q ≡ pool bs ws) (here : first < E q.words) (there : second < E q.words) where
+      present : ltb first (E ws) && ltb second (E ws) ≡ true
+      present = let e : E q.words ≡ E ws = ap (λ (p : Pool). E p.words) same in
+          and_intro (subst (λ (n : ℕ). ltb first n ≡ true) e (lt-ltb _ _ here)) (subst (λ (n : ℕ). ltb second n ≡ true) e (lt-ltb _ _ there))
 
-      answered : comparison bs ws first second ≡ answer_of (first_pair (pool bs ws) 0 first second)
+      answered : comparison bs ws first second ≡ answer_of (first_pair q 0 first second)
       unfolding comparison decided
-      answered = rw (judged ∙ y, present ∙ z)
+      answered = rw (v, present, same)
 
-      module _ (n a b : ℕ) (c : Compares (first_pair (pool bs ws) 0 first second) 0 n a b) where
-        pub rows_equal : n ≡ 1 → Equal ≡ comparison bs ws first second
+      module _ (f : Found) (c : Compares (first_pair q 0 first second) 0 f) where
+        pub rows_differ : (a b : ℕ) → f ≡ Differ a b → Ok (Some (record { first = a; second = b })) ≡ comparison bs ws first second
         unfolding answer_of
-        rows_equal e = sym (answered ∙ ap answer_of (c.yes e))
+        rows_differ a b e = sym (answered ∙ ap answer_of (c.told.no a b e))
 
-        pub rows_differ : (n ≡ 1 → ⊥) → Differ a b ≡ comparison bs ws first second
-        unfolding answer_of
-        rows_differ m = by (eqb n 0) refl
-          where
-            by : (k : Bool) → eqb n 0 ≡ k → Differ a b ≡ comparison bs ws first second
-            by true e = sym (answered ∙ ap answer_of (c.no (borrow.Author.Tests.eqb-true n 0 e)))
-            by false e = absurd ((c.apart (borrow.Author.Tests.eqb-false n 0 e) m).1 refl)
+      -- nothing is lifted, so the comparison tells
+      pub rows_equal : (f : Found) → Compares (first_pair q 0 first second) 0 f → ((a b : ℕ) → f ≡ Differ a b → ⊥) → Ok None ≡ comparison bs ws first second
+      unfolding answer_of
+      rows_equal (Differ a b) c other = absurd (other a b refl)
+      rows_equal Equal c other = sym (answered ∙ ap answer_of (c.told.yes refl))
+      rows_equal Unknown c other = absurd ((c.apart refl).1 refl)

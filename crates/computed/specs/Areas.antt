@@ -2,8 +2,8 @@
 use Rattle.std.specs.Prelude.{ℕ, ◌+◌, ◌-◌, ◌*◌, true, false, List, [], ◌∷◌, ◌++◌, eqb, length, replicate}
 use Prim.Native.Char.{code}
 use Prim.Native.String.{String}
-use Rattle.lister.specs.declared.Answer.{Answer}
-use Rattle.lister.specs.declared.Answer.TheVariants.{Done}
+use Rattle.std.specs.Prelude.{Ok}
+use Rattle.lister.specs.Answers.{Answer}
 use Rattle.lister.specs.Source.{Source}
 use Rattle.lister.specs.Prints.{Areas, Outcome}
 
@@ -30,7 +30,7 @@ lent rows bytes length =
 -- document rows, text bytes, listing length, lines, longest row, fit tests
 unfoldable pub counts : ℕ → ℕ → ℕ → ℕ → ℕ → ℕ → Answer
 counts rows text length lines longest tests =
-    Done (record { rows = rows; text = text; length = length; lines = lines; longest = longest; tests = tests })
+    Ok (record { rows = rows; text = text; length = length; lines = lines; longest = longest; tests = tests })
 
 -- "Success .. the document, then zeros"; the listing area is not touched past the listing
 unfoldable pub done : Answer → List ℕ → List ℕ → List ℕ → Outcome

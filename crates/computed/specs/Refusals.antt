@@ -1,6 +1,6 @@
 -- Prints into short areas, as model.py has them, computed by the definitions. Written by differential/compute.py.
-use Rattle.std.specs.Prelude.{◌≡◌, refl}
-use Rattle.lister.specs.declared.Answer.TheVariants.{RowArea, TextArea, Listing}
+use Rattle.std.specs.Prelude.{◌≡◌, refl, Err}
+use Rattle.lister.specs.declared.error.PrintError.TheVariants.{RowArea, TextArea, Listing}
 use Rattle.lister.specs.Prints.{print_expr}
 use Rattle.specimens.specs.Computing.{computing}
 use Rattle.computed.specs.Areas.{numbers, source, filled, left}
@@ -8,167 +8,167 @@ use Rattle.computed.specs.Areas.{numbers, source, filled, left}
 -- expression 2, indent 2, width 119: refused 20 at 14
 pub refusal0 :
     print_expr (source "120 67" "2 3 0 1 0 3 0 0 1 1 1 0 0 0 0 1 0 0 0 1 0 1 0 0 0 0 5 0 0 0 0 1 6 2 2 0 0 0 0 1 0 4 1 0 0 1 0 2 6") 2 2 119 (filled 104 7 8)
-    ≡ left (RowArea 14) (numbers "0 0 0 0 0 0 0 0 0 0 0 0 0 0 0 0 0 0 0 0 0 0 0 0 0 0 0 0 0 0 0 0 0 0 0 0 0 0 0 0 0 0 0 0 0 0 0 0 0 0 0 0 0 0 0 0 0 0 0 0 0 0 0 0 0 0 0 0 0 0 0 0 0 0 0 0 0 0 0 0 0 0 0 0 0 0 0 0 0 0 0 0 0 0 0 0 0 0 0 0 0 0 0 0") (numbers "0 0 0 0 0 0 0") (numbers "7 7 7 7 7 7 7 7")
+    ≡ left (Err (RowArea 14)) (numbers "0 0 0 0 0 0 0 0 0 0 0 0 0 0 0 0 0 0 0 0 0 0 0 0 0 0 0 0 0 0 0 0 0 0 0 0 0 0 0 0 0 0 0 0 0 0 0 0 0 0 0 0 0 0 0 0 0 0 0 0 0 0 0 0 0 0 0 0 0 0 0 0 0 0 0 0 0 0 0 0 0 0 0 0 0 0 0 0 0 0 0 0 0 0 0 0 0 0 0 0 0 0 0 0") (numbers "0 0 0 0 0 0 0") (numbers "7 7 7 7 7 7 7 7")
 unfolding computing numbers source filled left
 refusal0 = refl
 
 -- expression 2, indent 2, width 119: refused 21 at 11
 pub refusal1 :
     print_expr (source "120 67" "2 3 0 1 0 3 0 0 1 1 1 0 0 0 0 1 0 0 0 1 0 1 0 0 0 0 5 0 0 0 0 1 6 2 2 0 0 0 0 1 0 4 1 0 0 1 0 2 6") 2 2 119 (filled 105 6 8)
-    ≡ left (TextArea 11) (numbers "0 0 0 0 0 0 0 0 0 0 0 0 0 0 0 0 0 0 0 0 0 0 0 0 0 0 0 0 0 0 0 0 0 0 0 0 0 0 0 0 0 0 0 0 0 0 0 0 0 0 0 0 0 0 0 0 0 0 0 0 0 0 0 0 0 0 0 0 0 0 0 0 0 0 0 0 0 0 0 0 0 0 0 0 0 0 0 0 0 0 0 0 0 0 0 0 0 0 0 0 0 0 0 0 0") (numbers "0 0 0 0 0 0") (numbers "7 7 7 7 7 7 7 7")
+    ≡ left (Err (TextArea 11)) (numbers "0 0 0 0 0 0 0 0 0 0 0 0 0 0 0 0 0 0 0 0 0 0 0 0 0 0 0 0 0 0 0 0 0 0 0 0 0 0 0 0 0 0 0 0 0 0 0 0 0 0 0 0 0 0 0 0 0 0 0 0 0 0 0 0 0 0 0 0 0 0 0 0 0 0 0 0 0 0 0 0 0 0 0 0 0 0 0 0 0 0 0 0 0 0 0 0 0 0 0 0 0 0 0 0 0") (numbers "0 0 0 0 0 0") (numbers "7 7 7 7 7 7 7 7")
 unfolding computing numbers source filled left
 refusal1 = refl
 
 -- expression 2, indent 2, width 119: refused 22 at 0
 pub refusal2 :
     print_expr (source "120 67" "2 3 0 1 0 3 0 0 1 1 1 0 0 0 0 1 0 0 0 1 0 1 0 0 0 0 5 0 0 0 0 1 6 2 2 0 0 0 0 1 0 4 1 0 0 1 0 2 6") 2 2 119 (filled 105 7 7)
-    ≡ left (Listing) (numbers "0 0 1 1 1 1 0 4 0 0 2 1 1 0 3 2 0 3 1 1 0 0 1 1 1 1 1 0 1 0 0 5 2 2 0 0 2 3 1 3 3 0 1 0 0 7 5 5 0 2 1 0 1 1 0 1 1 0 0 9 6 5 1 4 0 0 10 6 5 1 0 5 1 1 1 1 0 0 6 1 1 1 1 0 1 0 0 3 2 2 0 1 0 0 14 8 5 1 4 0 0 15 8 5 1") (numbers "54 32 226 134 146 64 67") (numbers "54 32 226 134 146 32 64")
+    ≡ left (Err Listing) (numbers "0 0 1 1 1 1 0 4 0 0 2 1 1 0 3 2 0 3 1 1 0 0 1 1 1 1 1 0 1 0 0 5 2 2 0 0 2 3 1 3 3 0 1 0 0 7 5 5 0 2 1 0 1 1 0 1 1 0 0 9 6 5 1 4 0 0 10 6 5 1 0 5 1 1 1 1 0 0 6 1 1 1 1 0 1 0 0 3 2 2 0 1 0 0 14 8 5 1 4 0 0 15 8 5 1") (numbers "54 32 226 134 146 64 67") (numbers "54 32 226 134 146 32 64")
 unfolding computing numbers source filled left
 refusal2 = refl
 
 -- expression 2, indent 2, width 119: refused 20 at 7
 pub refusal3 :
     print_expr (source "120 67" "2 3 0 1 0 3 0 0 1 1 1 0 0 0 0 1 0 0 0 1 0 1 0 0 0 0 5 0 0 0 0 1 6 2 2 0 0 0 0 1 0 4 1 0 0 1 0 2 6") 2 2 119 (filled 52 7 8)
-    ≡ left (RowArea 7) (numbers "0 0 0 0 0 0 0 0 0 0 0 0 0 0 0 0 0 0 0 0 0 0 0 0 0 0 0 0 0 0 0 0 0 0 0 0 0 0 0 0 0 0 0 0 0 0 0 0 0 0 0 0") (numbers "0 0 0 0 0 0 0") (numbers "7 7 7 7 7 7 7 7")
+    ≡ left (Err (RowArea 7)) (numbers "0 0 0 0 0 0 0 0 0 0 0 0 0 0 0 0 0 0 0 0 0 0 0 0 0 0 0 0 0 0 0 0 0 0 0 0 0 0 0 0 0 0 0 0 0 0 0 0 0 0 0 0") (numbers "0 0 0 0 0 0 0") (numbers "7 7 7 7 7 7 7 7")
 unfolding computing numbers source filled left
 refusal3 = refl
 
 -- expression 2, indent 2, width 119: refused 21 at 5
 pub refusal4 :
     print_expr (source "120 67" "2 3 0 1 0 3 0 0 1 1 1 0 0 0 0 1 0 0 0 1 0 1 0 0 0 0 5 0 0 0 0 1 6 2 2 0 0 0 0 1 0 4 1 0 0 1 0 2 6") 2 2 119 (filled 105 3 8)
-    ≡ left (TextArea 5) (numbers "0 0 0 0 0 0 0 0 0 0 0 0 0 0 0 0 0 0 0 0 0 0 0 0 0 0 0 0 0 0 0 0 0 0 0 0 0 0 0 0 0 0 0 0 0 0 0 0 0 0 0 0 0 0 0 0 0 0 0 0 0 0 0 0 0 0 0 0 0 0 0 0 0 0 0 0 0 0 0 0 0 0 0 0 0 0 0 0 0 0 0 0 0 0 0 0 0 0 0 0 0 0 0 0 0") (numbers "0 0 0") (numbers "7 7 7 7 7 7 7 7")
+    ≡ left (Err (TextArea 5)) (numbers "0 0 0 0 0 0 0 0 0 0 0 0 0 0 0 0 0 0 0 0 0 0 0 0 0 0 0 0 0 0 0 0 0 0 0 0 0 0 0 0 0 0 0 0 0 0 0 0 0 0 0 0 0 0 0 0 0 0 0 0 0 0 0 0 0 0 0 0 0 0 0 0 0 0 0 0 0 0 0 0 0 0 0 0 0 0 0 0 0 0 0 0 0 0 0 0 0 0 0 0 0 0 0 0 0") (numbers "0 0 0") (numbers "7 7 7 7 7 7 7 7")
 unfolding computing numbers source filled left
 refusal4 = refl
 
 -- expression 2, indent 2, width 119: refused 21 at 5
 pub refusal5 :
     print_expr (source "120 67" "2 3 0 1 0 3 0 0 1 1 1 0 0 0 0 1 0 0 0 1 0 1 0 0 0 0 5 0 0 0 0 1 6 2 2 0 0 0 0 1 0 4 1 0 0 1 0 2 6") 2 2 119 (filled 52 3 8)
-    ≡ left (TextArea 5) (numbers "0 0 0 0 0 0 0 0 0 0 0 0 0 0 0 0 0 0 0 0 0 0 0 0 0 0 0 0 0 0 0 0 0 0 0 0 0 0 0 0 0 0 0 0 0 0 0 0 0 0 0 0") (numbers "0 0 0") (numbers "7 7 7 7 7 7 7 7")
+    ≡ left (Err (TextArea 5)) (numbers "0 0 0 0 0 0 0 0 0 0 0 0 0 0 0 0 0 0 0 0 0 0 0 0 0 0 0 0 0 0 0 0 0 0 0 0 0 0 0 0 0 0 0 0 0 0 0 0 0 0 0 0") (numbers "0 0 0") (numbers "7 7 7 7 7 7 7 7")
 unfolding computing numbers source filled left
 refusal5 = refl
 
 -- expression 2, indent 2, width 119: refused 22 at 0
 pub refusal6 :
     print_expr (source "120 67" "2 3 0 1 0 3 0 0 1 1 1 0 0 0 0 1 0 0 0 1 0 1 0 0 0 0 5 0 0 0 0 1 6 2 2 0 0 0 0 1 0 4 1 0 0 1 0 2 6") 2 2 119 (filled 105 7 0)
-    ≡ left (Listing) (numbers "0 0 1 1 1 1 0 4 0 0 2 1 1 0 3 2 0 3 1 1 0 0 1 1 1 1 1 0 1 0 0 5 2 2 0 0 2 3 1 3 3 0 1 0 0 7 5 5 0 2 1 0 1 1 0 1 1 0 0 9 6 5 1 4 0 0 10 6 5 1 0 5 1 1 1 1 0 0 6 1 1 1 1 0 1 0 0 3 2 2 0 1 0 0 14 8 5 1 4 0 0 15 8 5 1") (numbers "54 32 226 134 146 64 67") (numbers "")
+    ≡ left (Err Listing) (numbers "0 0 1 1 1 1 0 4 0 0 2 1 1 0 3 2 0 3 1 1 0 0 1 1 1 1 1 0 1 0 0 5 2 2 0 0 2 3 1 3 3 0 1 0 0 7 5 5 0 2 1 0 1 1 0 1 1 0 0 9 6 5 1 4 0 0 10 6 5 1 0 5 1 1 1 1 0 0 6 1 1 1 1 0 1 0 0 3 2 2 0 1 0 0 14 8 5 1 4 0 0 15 8 5 1") (numbers "54 32 226 134 146 64 67") (numbers "")
 unfolding computing numbers source filled left
 refusal6 = refl
 
 -- expression 2, indent 2, width 119: refused 21 at 0
 pub refusal7 :
     print_expr (source "120 67" "2 3 0 1 0 3 0 0 1 1 1 0 0 0 0 1 0 0 0 1 0 1 0 0 0 0 5 0 0 0 0 1 6 2 2 0 0 0 0 1 0 4 1 0 0 1 0 2 6") 2 2 119 (filled 0 0 0)
-    ≡ left (TextArea 0) (numbers "") (numbers "") (numbers "")
+    ≡ left (Err (TextArea 0)) (numbers "") (numbers "") (numbers "")
 unfolding computing numbers source filled left
 refusal7 = refl
 
 -- expression 2, indent 2, width 120: refused 20 at 14
 pub refusal8 :
     print_expr (source "120 67" "2 3 0 1 0 3 0 0 1 1 1 0 0 0 0 1 0 0 0 1 0 1 0 0 0 0 5 0 0 0 0 1 6 2 2 0 0 0 0 1 0 4 1 0 0 1 0 2 6") 2 2 120 (filled 104 7 8)
-    ≡ left (RowArea 14) (numbers "0 0 0 0 0 0 0 0 0 0 0 0 0 0 0 0 0 0 0 0 0 0 0 0 0 0 0 0 0 0 0 0 0 0 0 0 0 0 0 0 0 0 0 0 0 0 0 0 0 0 0 0 0 0 0 0 0 0 0 0 0 0 0 0 0 0 0 0 0 0 0 0 0 0 0 0 0 0 0 0 0 0 0 0 0 0 0 0 0 0 0 0 0 0 0 0 0 0 0 0 0 0 0 0") (numbers "0 0 0 0 0 0 0") (numbers "7 7 7 7 7 7 7 7")
+    ≡ left (Err (RowArea 14)) (numbers "0 0 0 0 0 0 0 0 0 0 0 0 0 0 0 0 0 0 0 0 0 0 0 0 0 0 0 0 0 0 0 0 0 0 0 0 0 0 0 0 0 0 0 0 0 0 0 0 0 0 0 0 0 0 0 0 0 0 0 0 0 0 0 0 0 0 0 0 0 0 0 0 0 0 0 0 0 0 0 0 0 0 0 0 0 0 0 0 0 0 0 0 0 0 0 0 0 0 0 0 0 0 0 0") (numbers "0 0 0 0 0 0 0") (numbers "7 7 7 7 7 7 7 7")
 unfolding computing numbers source filled left
 refusal8 = refl
 
 -- expression 2, indent 2, width 120: refused 21 at 11
 pub refusal9 :
     print_expr (source "120 67" "2 3 0 1 0 3 0 0 1 1 1 0 0 0 0 1 0 0 0 1 0 1 0 0 0 0 5 0 0 0 0 1 6 2 2 0 0 0 0 1 0 4 1 0 0 1 0 2 6") 2 2 120 (filled 105 6 8)
-    ≡ left (TextArea 11) (numbers "0 0 0 0 0 0 0 0 0 0 0 0 0 0 0 0 0 0 0 0 0 0 0 0 0 0 0 0 0 0 0 0 0 0 0 0 0 0 0 0 0 0 0 0 0 0 0 0 0 0 0 0 0 0 0 0 0 0 0 0 0 0 0 0 0 0 0 0 0 0 0 0 0 0 0 0 0 0 0 0 0 0 0 0 0 0 0 0 0 0 0 0 0 0 0 0 0 0 0 0 0 0 0 0 0") (numbers "0 0 0 0 0 0") (numbers "7 7 7 7 7 7 7 7")
+    ≡ left (Err (TextArea 11)) (numbers "0 0 0 0 0 0 0 0 0 0 0 0 0 0 0 0 0 0 0 0 0 0 0 0 0 0 0 0 0 0 0 0 0 0 0 0 0 0 0 0 0 0 0 0 0 0 0 0 0 0 0 0 0 0 0 0 0 0 0 0 0 0 0 0 0 0 0 0 0 0 0 0 0 0 0 0 0 0 0 0 0 0 0 0 0 0 0 0 0 0 0 0 0 0 0 0 0 0 0 0 0 0 0 0 0") (numbers "0 0 0 0 0 0") (numbers "7 7 7 7 7 7 7 7")
 unfolding computing numbers source filled left
 refusal9 = refl
 
 -- expression 2, indent 2, width 120: refused 22 at 0
 pub refusal10 :
     print_expr (source "120 67" "2 3 0 1 0 3 0 0 1 1 1 0 0 0 0 1 0 0 0 1 0 1 0 0 0 0 5 0 0 0 0 1 6 2 2 0 0 0 0 1 0 4 1 0 0 1 0 2 6") 2 2 120 (filled 105 7 7)
-    ≡ left (Listing) (numbers "0 0 1 1 1 1 0 4 0 0 2 1 1 0 3 2 0 3 1 1 0 0 1 1 1 1 1 0 1 0 0 5 2 2 0 0 2 3 1 3 3 0 1 0 0 7 5 5 0 2 1 0 1 1 0 1 1 0 0 9 6 5 1 4 0 0 10 6 5 1 0 5 1 1 1 1 0 0 6 1 1 1 1 0 1 0 0 3 2 2 0 1 0 0 14 8 5 1 4 0 0 15 8 5 1") (numbers "54 32 226 134 146 64 67") (numbers "54 32 226 134 146 32 64")
+    ≡ left (Err Listing) (numbers "0 0 1 1 1 1 0 4 0 0 2 1 1 0 3 2 0 3 1 1 0 0 1 1 1 1 1 0 1 0 0 5 2 2 0 0 2 3 1 3 3 0 1 0 0 7 5 5 0 2 1 0 1 1 0 1 1 0 0 9 6 5 1 4 0 0 10 6 5 1 0 5 1 1 1 1 0 0 6 1 1 1 1 0 1 0 0 3 2 2 0 1 0 0 14 8 5 1 4 0 0 15 8 5 1") (numbers "54 32 226 134 146 64 67") (numbers "54 32 226 134 146 32 64")
 unfolding computing numbers source filled left
 refusal10 = refl
 
 -- expression 2, indent 2, width 120: refused 20 at 7
 pub refusal11 :
     print_expr (source "120 67" "2 3 0 1 0 3 0 0 1 1 1 0 0 0 0 1 0 0 0 1 0 1 0 0 0 0 5 0 0 0 0 1 6 2 2 0 0 0 0 1 0 4 1 0 0 1 0 2 6") 2 2 120 (filled 52 7 8)
-    ≡ left (RowArea 7) (numbers "0 0 0 0 0 0 0 0 0 0 0 0 0 0 0 0 0 0 0 0 0 0 0 0 0 0 0 0 0 0 0 0 0 0 0 0 0 0 0 0 0 0 0 0 0 0 0 0 0 0 0 0") (numbers "0 0 0 0 0 0 0") (numbers "7 7 7 7 7 7 7 7")
+    ≡ left (Err (RowArea 7)) (numbers "0 0 0 0 0 0 0 0 0 0 0 0 0 0 0 0 0 0 0 0 0 0 0 0 0 0 0 0 0 0 0 0 0 0 0 0 0 0 0 0 0 0 0 0 0 0 0 0 0 0 0 0") (numbers "0 0 0 0 0 0 0") (numbers "7 7 7 7 7 7 7 7")
 unfolding computing numbers source filled left
 refusal11 = refl
 
 -- expression 2, indent 2, width 120: refused 21 at 5
 pub refusal12 :
     print_expr (source "120 67" "2 3 0 1 0 3 0 0 1 1 1 0 0 0 0 1 0 0 0 1 0 1 0 0 0 0 5 0 0 0 0 1 6 2 2 0 0 0 0 1 0 4 1 0 0 1 0 2 6") 2 2 120 (filled 105 3 8)
-    ≡ left (TextArea 5) (numbers "0 0 0 0 0 0 0 0 0 0 0 0 0 0 0 0 0 0 0 0 0 0 0 0 0 0 0 0 0 0 0 0 0 0 0 0 0 0 0 0 0 0 0 0 0 0 0 0 0 0 0 0 0 0 0 0 0 0 0 0 0 0 0 0 0 0 0 0 0 0 0 0 0 0 0 0 0 0 0 0 0 0 0 0 0 0 0 0 0 0 0 0 0 0 0 0 0 0 0 0 0 0 0 0 0") (numbers "0 0 0") (numbers "7 7 7 7 7 7 7 7")
+    ≡ left (Err (TextArea 5)) (numbers "0 0 0 0 0 0 0 0 0 0 0 0 0 0 0 0 0 0 0 0 0 0 0 0 0 0 0 0 0 0 0 0 0 0 0 0 0 0 0 0 0 0 0 0 0 0 0 0 0 0 0 0 0 0 0 0 0 0 0 0 0 0 0 0 0 0 0 0 0 0 0 0 0 0 0 0 0 0 0 0 0 0 0 0 0 0 0 0 0 0 0 0 0 0 0 0 0 0 0 0 0 0 0 0 0") (numbers "0 0 0") (numbers "7 7 7 7 7 7 7 7")
 unfolding computing numbers source filled left
 refusal12 = refl
 
 -- expression 2, indent 2, width 120: refused 21 at 5
 pub refusal13 :
     print_expr (source "120 67" "2 3 0 1 0 3 0 0 1 1 1 0 0 0 0 1 0 0 0 1 0 1 0 0 0 0 5 0 0 0 0 1 6 2 2 0 0 0 0 1 0 4 1 0 0 1 0 2 6") 2 2 120 (filled 52 3 8)
-    ≡ left (TextArea 5) (numbers "0 0 0 0 0 0 0 0 0 0 0 0 0 0 0 0 0 0 0 0 0 0 0 0 0 0 0 0 0 0 0 0 0 0 0 0 0 0 0 0 0 0 0 0 0 0 0 0 0 0 0 0") (numbers "0 0 0") (numbers "7 7 7 7 7 7 7 7")
+    ≡ left (Err (TextArea 5)) (numbers "0 0 0 0 0 0 0 0 0 0 0 0 0 0 0 0 0 0 0 0 0 0 0 0 0 0 0 0 0 0 0 0 0 0 0 0 0 0 0 0 0 0 0 0 0 0 0 0 0 0 0 0") (numbers "0 0 0") (numbers "7 7 7 7 7 7 7 7")
 unfolding computing numbers source filled left
 refusal13 = refl
 
 -- expression 2, indent 2, width 120: refused 22 at 0
 pub refusal14 :
     print_expr (source "120 67" "2 3 0 1 0 3 0 0 1 1 1 0 0 0 0 1 0 0 0 1 0 1 0 0 0 0 5 0 0 0 0 1 6 2 2 0 0 0 0 1 0 4 1 0 0 1 0 2 6") 2 2 120 (filled 105 7 0)
-    ≡ left (Listing) (numbers "0 0 1 1 1 1 0 4 0 0 2 1 1 0 3 2 0 3 1 1 0 0 1 1 1 1 1 0 1 0 0 5 2 2 0 0 2 3 1 3 3 0 1 0 0 7 5 5 0 2 1 0 1 1 0 1 1 0 0 9 6 5 1 4 0 0 10 6 5 1 0 5 1 1 1 1 0 0 6 1 1 1 1 0 1 0 0 3 2 2 0 1 0 0 14 8 5 1 4 0 0 15 8 5 1") (numbers "54 32 226 134 146 64 67") (numbers "")
+    ≡ left (Err Listing) (numbers "0 0 1 1 1 1 0 4 0 0 2 1 1 0 3 2 0 3 1 1 0 0 1 1 1 1 1 0 1 0 0 5 2 2 0 0 2 3 1 3 3 0 1 0 0 7 5 5 0 2 1 0 1 1 0 1 1 0 0 9 6 5 1 4 0 0 10 6 5 1 0 5 1 1 1 1 0 0 6 1 1 1 1 0 1 0 0 3 2 2 0 1 0 0 14 8 5 1 4 0 0 15 8 5 1") (numbers "54 32 226 134 146 64 67") (numbers "")
 unfolding computing numbers source filled left
 refusal14 = refl
 
 -- expression 2, indent 2, width 120: refused 21 at 0
 pub refusal15 :
     print_expr (source "120 67" "2 3 0 1 0 3 0 0 1 1 1 0 0 0 0 1 0 0 0 1 0 1 0 0 0 0 5 0 0 0 0 1 6 2 2 0 0 0 0 1 0 4 1 0 0 1 0 2 6") 2 2 120 (filled 0 0 0)
-    ≡ left (TextArea 0) (numbers "") (numbers "") (numbers "")
+    ≡ left (Err (TextArea 0)) (numbers "") (numbers "") (numbers "")
 unfolding computing numbers source filled left
 refusal15 = refl
 
 -- expression 0, indent 2, width 119: refused 20 at 13
 pub refusal16 :
     print_expr (source "117" "1 2 3 0 0 1 0 0 1 0 0 0 0 1 0 0 0 4 1 0 1 0 0 1 1 0 1 2 0 0 0 0 1 0") 0 2 119 (filled 97 10 10)
-    ≡ left (RowArea 13) (numbers "0 0 0 0 0 0 0 0 0 0 0 0 0 0 0 0 0 0 0 0 0 0 0 0 0 0 0 0 0 0 0 0 0 0 0 0 0 0 0 0 0 0 0 0 0 0 0 0 0 0 0 0 0 0 0 0 0 0 0 0 0 0 0 0 0 0 0 0 0 0 0 0 0 0 0 0 0 0 0 0 0 0 0 0 0 0 0 0 0 0 0 0 0 0 0 0 0") (numbers "0 0 0 0 0 0 0 0 0 0") (numbers "7 7 7 7 7 7 7 7 7 7")
+    ≡ left (Err (RowArea 13)) (numbers "0 0 0 0 0 0 0 0 0 0 0 0 0 0 0 0 0 0 0 0 0 0 0 0 0 0 0 0 0 0 0 0 0 0 0 0 0 0 0 0 0 0 0 0 0 0 0 0 0 0 0 0 0 0 0 0 0 0 0 0 0 0 0 0 0 0 0 0 0 0 0 0 0 0 0 0 0 0 0 0 0 0 0 0 0 0 0 0 0 0 0 0 0 0 0 0 0") (numbers "0 0 0 0 0 0 0 0 0 0") (numbers "7 7 7 7 7 7 7 7 7 7")
 unfolding computing numbers source filled left
 refusal16 = refl
 
 -- expression 0, indent 2, width 119: refused 21 at 10
 pub refusal17 :
     print_expr (source "117" "1 2 3 0 0 1 0 0 1 0 0 0 0 1 0 0 0 4 1 0 1 0 0 1 1 0 1 2 0 0 0 0 1 0") 0 2 119 (filled 98 9 10)
-    ≡ left (TextArea 10) (numbers "0 0 0 0 0 0 0 0 0 0 0 0 0 0 0 0 0 0 0 0 0 0 0 0 0 0 0 0 0 0 0 0 0 0 0 0 0 0 0 0 0 0 0 0 0 0 0 0 0 0 0 0 0 0 0 0 0 0 0 0 0 0 0 0 0 0 0 0 0 0 0 0 0 0 0 0 0 0 0 0 0 0 0 0 0 0 0 0 0 0 0 0 0 0 0 0 0 0") (numbers "0 0 0 0 0 0 0 0 0") (numbers "7 7 7 7 7 7 7 7 7 7")
+    ≡ left (Err (TextArea 10)) (numbers "0 0 0 0 0 0 0 0 0 0 0 0 0 0 0 0 0 0 0 0 0 0 0 0 0 0 0 0 0 0 0 0 0 0 0 0 0 0 0 0 0 0 0 0 0 0 0 0 0 0 0 0 0 0 0 0 0 0 0 0 0 0 0 0 0 0 0 0 0 0 0 0 0 0 0 0 0 0 0 0 0 0 0 0 0 0 0 0 0 0 0 0 0 0 0 0 0 0") (numbers "0 0 0 0 0 0 0 0 0") (numbers "7 7 7 7 7 7 7 7 7 7")
 unfolding computing numbers source filled left
 refusal17 = refl
 
 -- expression 0, indent 2, width 119: refused 22 at 0
 pub refusal18 :
     print_expr (source "117" "1 2 3 0 0 1 0 0 1 0 0 0 0 1 0 0 0 4 1 0 1 0 0 1 1 0 1 2 0 0 0 0 1 0") 0 2 119 (filled 98 10 9)
-    ≡ left (Listing) (numbers "0 0 4 1 4 4 0 0 4 1 1 1 1 0 1 0 0 3 5 5 0 0 5 1 1 1 1 0 0 6 1 1 1 1 0 0 7 1 1 1 1 0 1 0 0 3 2 2 0 0 8 1 1 1 1 0 1 0 0 5 3 3 0 1 0 0 7 4 4 0 0 9 1 1 1 1 0 1 0 0 9 5 5 0 1 0 0 13 10 10 0 4 0 0 14 10 10 0") (numbers "84 121 112 101 32 40 117 43 49 41") (numbers "84 121 112 101 32 40 117 43 49")
+    ≡ left (Err Listing) (numbers "0 0 4 1 4 4 0 0 4 1 1 1 1 0 1 0 0 3 5 5 0 0 5 1 1 1 1 0 0 6 1 1 1 1 0 0 7 1 1 1 1 0 1 0 0 3 2 2 0 0 8 1 1 1 1 0 1 0 0 5 3 3 0 1 0 0 7 4 4 0 0 9 1 1 1 1 0 1 0 0 9 5 5 0 1 0 0 13 10 10 0 4 0 0 14 10 10 0") (numbers "84 121 112 101 32 40 117 43 49 41") (numbers "84 121 112 101 32 40 117 43 49")
 unfolding computing numbers source filled left
 refusal18 = refl
 
 -- expression 0, indent 2, width 119: refused 20 at 7
 pub refusal19 :
     print_expr (source "117" "1 2 3 0 0 1 0 0 1 0 0 0 0 1 0 0 0 4 1 0 1 0 0 1 1 0 1 2 0 0 0 0 1 0") 0 2 119 (filled 49 10 10)
-    ≡ left (RowArea 7) (numbers "0 0 0 0 0 0 0 0 0 0 0 0 0 0 0 0 0 0 0 0 0 0 0 0 0 0 0 0 0 0 0 0 0 0 0 0 0 0 0 0 0 0 0 0 0 0 0 0 0") (numbers "0 0 0 0 0 0 0 0 0 0") (numbers "7 7 7 7 7 7 7 7 7 7")
+    ≡ left (Err (RowArea 7)) (numbers "0 0 0 0 0 0 0 0 0 0 0 0 0 0 0 0 0 0 0 0 0 0 0 0 0 0 0 0 0 0 0 0 0 0 0 0 0 0 0 0 0 0 0 0 0 0 0 0 0") (numbers "0 0 0 0 0 0 0 0 0 0") (numbers "7 7 7 7 7 7 7 7 7 7")
 unfolding computing numbers source filled left
 refusal19 = refl
 
 -- expression 0, indent 2, width 119: refused 21 at 3
 pub refusal20 :
     print_expr (source "117" "1 2 3 0 0 1 0 0 1 0 0 0 0 1 0 0 0 4 1 0 1 0 0 1 1 0 1 2 0 0 0 0 1 0") 0 2 119 (filled 98 5 10)
-    ≡ left (TextArea 3) (numbers "0 0 0 0 0 0 0 0 0 0 0 0 0 0 0 0 0 0 0 0 0 0 0 0 0 0 0 0 0 0 0 0 0 0 0 0 0 0 0 0 0 0 0 0 0 0 0 0 0 0 0 0 0 0 0 0 0 0 0 0 0 0 0 0 0 0 0 0 0 0 0 0 0 0 0 0 0 0 0 0 0 0 0 0 0 0 0 0 0 0 0 0 0 0 0 0 0 0") (numbers "0 0 0 0 0") (numbers "7 7 7 7 7 7 7 7 7 7")
+    ≡ left (Err (TextArea 3)) (numbers "0 0 0 0 0 0 0 0 0 0 0 0 0 0 0 0 0 0 0 0 0 0 0 0 0 0 0 0 0 0 0 0 0 0 0 0 0 0 0 0 0 0 0 0 0 0 0 0 0 0 0 0 0 0 0 0 0 0 0 0 0 0 0 0 0 0 0 0 0 0 0 0 0 0 0 0 0 0 0 0 0 0 0 0 0 0 0 0 0 0 0 0 0 0 0 0 0 0") (numbers "0 0 0 0 0") (numbers "7 7 7 7 7 7 7 7 7 7")
 unfolding computing numbers source filled left
 refusal20 = refl
 
 -- expression 0, indent 2, width 119: refused 21 at 3
 pub refusal21 :
     print_expr (source "117" "1 2 3 0 0 1 0 0 1 0 0 0 0 1 0 0 0 4 1 0 1 0 0 1 1 0 1 2 0 0 0 0 1 0") 0 2 119 (filled 49 5 10)
-    ≡ left (TextArea 3) (numbers "0 0 0 0 0 0 0 0 0 0 0 0 0 0 0 0 0 0 0 0 0 0 0 0 0 0 0 0 0 0 0 0 0 0 0 0 0 0 0 0 0 0 0 0 0 0 0 0 0") (numbers "0 0 0 0 0") (numbers "7 7 7 7 7 7 7 7 7 7")
+    ≡ left (Err (TextArea 3)) (numbers "0 0 0 0 0 0 0 0 0 0 0 0 0 0 0 0 0 0 0 0 0 0 0 0 0 0 0 0 0 0 0 0 0 0 0 0 0 0 0 0 0 0 0 0 0 0 0 0 0") (numbers "0 0 0 0 0") (numbers "7 7 7 7 7 7 7 7 7 7")
 unfolding computing numbers source filled left
 refusal21 = refl
 
 -- expression 0, indent 2, width 119: refused 22 at 0
 pub refusal22 :
     print_expr (source "117" "1 2 3 0 0 1 0 0 1 0 0 0 0 1 0 0 0 4 1 0 1 0 0 1 1 0 1 2 0 0 0 0 1 0") 0 2 119 (filled 98 10 0)
-    ≡ left (Listing) (numbers "0 0 4 1 4 4 0 0 4 1 1 1 1 0 1 0 0 3 5 5 0 0 5 1 1 1 1 0 0 6 1 1 1 1 0 0 7 1 1 1 1 0 1 0 0 3 2 2 0 0 8 1 1 1 1 0 1 0 0 5 3 3 0 1 0 0 7 4 4 0 0 9 1 1 1 1 0 1 0 0 9 5 5 0 1 0 0 13 10 10 0 4 0 0 14 10 10 0") (numbers "84 121 112 101 32 40 117 43 49 41") (numbers "")
+    ≡ left (Err Listing) (numbers "0 0 4 1 4 4 0 0 4 1 1 1 1 0 1 0 0 3 5 5 0 0 5 1 1 1 1 0 0 6 1 1 1 1 0 0 7 1 1 1 1 0 1 0 0 3 2 2 0 0 8 1 1 1 1 0 1 0 0 5 3 3 0 1 0 0 7 4 4 0 0 9 1 1 1 1 0 1 0 0 9 5 5 0 1 0 0 13 10 10 0 4 0 0 14 10 10 0") (numbers "84 121 112 101 32 40 117 43 49 41") (numbers "")
 unfolding computing numbers source filled left
 refusal22 = refl
 
 -- expression 0, indent 2, width 119: refused 21 at 0
 pub refusal23 :
     print_expr (source "117" "1 2 3 0 0 1 0 0 1 0 0 0 0 1 0 0 0 4 1 0 1 0 0 1 1 0 1 2 0 0 0 0 1 0") 0 2 119 (filled 0 0 0)
-    ≡ left (TextArea 0) (numbers "") (numbers "") (numbers "")
+    ≡ left (Err (TextArea 0)) (numbers "") (numbers "") (numbers "")
 unfolding computing numbers source filled left
 refusal23 = refl

@@ -8,19 +8,18 @@ use mathlib.Core.Path.{◌≡◌, refl, sym, ap, ap₂, ◌∙◌}
 use lib.Dec.{ltb, eqb}
 use lib.ListN.{length, take, drop}
 use borrow.Author.Tests.{ltb-true}
-use Rattle.document.specs.Walk.{Marked}
-use Rattle.document.specs.Sink.{State, sink_of, put_text, put_join, put_break, put_nest, put_group, put_names, emit}
+use Rattle.document.specs.Walk.{Marked, textᵐ}
+use Rattle.document.specs.Sink.{State, written_of, put_text, put_join, put_break, put_nest, put_group, put_names, emit}
 use Rattle.document.proofs.Steps.{stays_join}
-use Rattle.pool.specs.declared.tables.Tables.{Tables}
-use Rattle.pool.specs.Areas.{over}
 use Rattle.pool.specs.Tables.{Pool, N, K, E, D, expr_word, declar_word}
 use Rattle.pool.specs.Tree.{Name, Level, Expr, var, sort, const, app, pi, lam, letᵉ, proj, nat, str, Declar, typed, valued, lift}
 use Rattle.pool.specs.Unfold.{name_at, list_at, expr_at, declar_at, has_value}
 use Rattle.pool.specs.Rules.{declar_ok}
 use Rattle.pool.specs.Sound.{Sound}
+use Rattle.std.specs.Prelude.{is_none}
 use Rattle.basics.proofs.Booleans.{and_left, and_right}
 use Rattle.pieces.specs.Docs.{◌⊹◌, quoted, G, Parenable, under}
-use Rattle.pieces.specs.Words.{word_bytes}
+use Rattle.utf8.specs.Quoted.{bytes}
 use Rattle.pieces.proofs.Emitting.{emit_stopped}
 use Rattle.binders.specs.declared.stack.Stack.{Stack}
 use Rattle.binders.specs.Runs.{leading, following}
@@ -28,7 +27,7 @@ use Rattle.binders.specs.Binders.{Binder, binders, chain_body, pushed, in_force,
 use Rattle.pretty_printer.specs.Exprs.{expr_par, expr_doc}
 use Rattle.binders.specs.Rename.{up, rename}
 use Rattle.binders.specs.Scopes.{names_below, names_of, place_in, Linked, Held, scoped, last_scope, Chained}
-use Rattle.binders.specs.Asked.{Pooled, Asked, InChain, ChainPushed, RunEnd}
+use Rattle.binders.specs.Asked.{Asked, InChain, ChainPushed, RunEnd}
 use Rattle.declarations.specs.Declars.{keyword, info, Taken, taken, def_rest, axiom_rest, main_def, main_axiom, declar_doc}
 use Rattle.binders.specs.Steps.{is_binder, in_run, run_length, chain_length, drop_chain}
 use Rattle.pieces.specs.Puts.{join_piece}
@@ -72,25 +71,11 @@ declar_row p sound r h =
 
 -- ---- words
 
--- the word of a kind is the word of that number
-declar_word_lem : (kind : ℕ) → kind < 8 → (st : State) → put_text (word_bytes kind) st ≡ emit (keyword kind) st
-unfolding keyword quoted emit
-declar_word_lem zero h st = refl
-declar_word_lem (suc zero) h st = refl
-declar_word_lem (suc (suc zero)) h st = refl
-declar_word_lem (suc (suc (suc zero))) h st = refl
-declar_word_lem (suc (suc (suc (suc zero)))) h st = refl
-declar_word_lem (suc (suc (suc (suc (suc zero))))) h st = refl
-declar_word_lem (suc (suc (suc (suc (suc (suc zero)))))) h st = refl
-declar_word_lem (suc (suc (suc (suc (suc (suc (suc zero))))))) h st = refl
-declar_word_lem (suc (suc (suc (suc (suc (suc (suc (suc n)))))))) h st = absurd (omega arith)
-
-pub head_puts : (kind k : ℕ) (n : Name) (ls : List Level) (st : State) → kind ≡ k → k < 8 →
-    put_join (put_text (word_bytes 24) (put_join (emit (info n ls) (put_join (put_text (word_bytes 24) (put_text (word_bytes kind) st)))))) ≡ emit (head_part k n ls) st
+pub head_puts : (word : List ℕ) (k : ℕ) (n : Name) (ls : List Level) (st : State) → textᵐ word ≡ keyword k →
+    put_join (put_text (bytes " ") (put_join (emit (info n ls) (put_join (put_text (bytes " ") (put_text word st)))))) ≡ emit (head_part k n ls) st
 unfolding head_part quoted emit
-head_puts kind k n ls st e h =
-    ap (λ (x : State). put_join (put_text (word_bytes 24) (put_join (emit (info n ls) (put_join (put_text (word_bytes 24) x))))))
-    (ap (λ (x : ℕ). put_text (word_bytes x) st) e ∙ declar_word_lem k h st)
+head_puts word k n ls st e =
+    ap (λ (m : Marked). put_join (put_text (bytes " ") (put_join (emit (info n ls) (put_join (put_text (bytes " ") (emit m st))))))) e
 
 -- ---- the pieces
 
@@ -105,22 +90,22 @@ module _ (opts : PpOptions) (p : Pool) (k : Stack) where
   unfolding value_part emit
   value_puts m e st = refl
 
-  pub def_colon : (n : ℕ) (e : Expr) (st : State) → n ≡ 0 → put_text (word_bytes 25) st ≡ def_start opts p k n e st
+  pub def_colon : (n : ℕ) (e : Expr) (st : State) → n ≡ 0 → put_text (bytes ":") st ≡ def_start opts p k n e st
   unfolding def_start
   def_colon n e st z = rw z
 
   pub def_binders : (n : ℕ) (e : Expr) (st : State) → (n ≡ 0 → ⊥) →
-      put_join (put_text (word_bytes 25) (put_join (put_text (word_bytes 24) (put_nest opts.indent (put_group (groups_part opts p k true 0 0 n e st)))))) ≡ def_start opts p k n e st
+      put_join (put_text (bytes ":") (put_join (put_text (bytes " ") (put_nest opts.indent (put_group (groups_part opts p k true 0 0 n e st)))))) ≡ def_start opts p k n e st
   unfolding def_start join_piece
   def_binders zero e st z = absurd (z refl)
   def_binders (suc n) e st z = refl
 
-  pub axiom_colon : (n : ℕ) (e : Expr) (st : State) → n ≡ 0 → put_text (word_bytes 25) st ≡ axiom_start opts p k n e st
+  pub axiom_colon : (n : ℕ) (e : Expr) (st : State) → n ≡ 0 → put_text (bytes ":") st ≡ axiom_start opts p k n e st
   unfolding axiom_start
   axiom_colon n e st z = rw z
 
   pub axiom_binders : (n : ℕ) (e : Expr) (st : State) → (n ≡ 0 → ⊥) →
-      put_join (put_text (word_bytes 25) (put_join (put_text (word_bytes 24) (groups_part opts p k true 0 0 n e st)))) ≡ axiom_start opts p k n e st
+      put_join (put_text (bytes ":") (put_join (put_text (bytes " ") (groups_part opts p k true 0 0 n e st)))) ≡ axiom_start opts p k n e st
   unfolding axiom_start join_piece
   axiom_binders zero e st z = absurd (z refl)
   axiom_binders (suc n) e st z = refl
@@ -135,26 +120,26 @@ filled (suc n) (x ∷ xs) f h e = omega arith
 
 module _ (opts : PpOptions) (pp : Expr → Parenable) where
   no_taken : (l : List Binder) (T : Marked) (st : State) → l ≡ [] →
-      put_join (put_text (word_bytes 26) (put_join (put_text (word_bytes 24) (put_join (emit T (put_text (word_bytes 25) st)))))) ≡ emit (def_rest opts pp l T) st
+      put_join (put_text (bytes ":=") (put_join (put_text (bytes " ") (put_join (emit T (put_text (bytes ":") st)))))) ≡ emit (def_rest opts pp l T) st
   unfolding def_rest emit quoted
   no_taken l T st e = rw e
 
   some_taken : (l : List Binder) (T : Marked) (st : State) → (length l ≡ 0 → ⊥) →
       put_group
-      (put_join (put_text (word_bytes 26) (put_join (put_text (word_bytes 24)
-      (put_join (emit T (put_join (put_text (word_bytes 25) (put_join (put_text (word_bytes 24) (put_nest opts.indent (put_group (emit (telescope opts pp l) st)))))))))))))
+      (put_join (put_text (bytes ":=") (put_join (put_text (bytes " ")
+      (put_join (emit T (put_join (put_text (bytes ":") (put_join (put_text (bytes " ") (put_nest opts.indent (put_group (emit (telescope opts pp l) st)))))))))))))
       ≡ emit (def_rest opts pp l T) st
   unfolding def_rest emit quoted
   some_taken [] T st f = absurd (f refl)
   some_taken (x ∷ xs) T st f = refl
 
   no_leading : (l : List Binder) (T : Marked) (st : State) → l ≡ [] →
-      put_nest opts.indent (put_group (put_join (put_group (emit T (put_join (put_break 1 (put_text (word_bytes 25) st))))))) ≡ emit (axiom_rest opts pp l T) st
+      put_nest opts.indent (put_group (put_join (put_group (emit T (put_join (put_break 1 (put_text (bytes ":") st))))))) ≡ emit (axiom_rest opts pp l T) st
   unfolding axiom_rest emit quoted
   no_leading l T st e = rw e
 
   some_leading : (l : List Binder) (T : Marked) (st : State) → (length l ≡ 0 → ⊥) →
-      put_nest opts.indent (put_group (put_join (put_group (emit T (put_join (put_break 1 (put_join (put_text (word_bytes 25) (put_join (put_text (word_bytes 24) (emit (telescope opts pp l) st)))))))))))
+      put_nest opts.indent (put_group (put_join (put_group (emit T (put_join (put_break 1 (put_join (put_text (bytes ":") (put_join (put_text (bytes " ") (emit (telescope opts pp l) st)))))))))))
       ≡ emit (axiom_rest opts pp l T) st
   unfolding axiom_rest emit quoted
   some_leading [] T st f = absurd (f refl)
@@ -162,13 +147,13 @@ module _ (opts : PpOptions) (pp : Expr → Parenable) where
 
 module _ (opts : PpOptions) (p : Pool) (k : Stack) where
   pub rest_none : (count : ℕ) (e e₁ : Expr) (st : State) → count ≡ 0 → e₁ ≡ drop_chain count e →
-      put_join (put_text (word_bytes 26) (put_join (put_text (word_bytes 24) (put_join (emit (type_part opts p k count e₁) (def_start opts p k count e st))))))
+      put_join (put_text (bytes ":=") (put_join (put_text (bytes " ") (put_join (emit (type_part opts p k count e₁) (def_start opts p k count e st))))))
       ≡ emit (def_part opts p k count e) st
   unfolding def_part def_start
   rest_none count e e₁ st z d = rw (d, z) (no_taken opts (printed opts p k) [] (type_part opts p k 0 (drop_chain 0 e)) st refl)
 
   pub rest_some : (count : ℕ) (e e₁ : Expr) (st : State) → (count ≡ 0 → ⊥) → count ≤ chain_length e → e₁ ≡ drop_chain count e →
-      put_group (put_join (put_text (word_bytes 26) (put_join (put_text (word_bytes 24) (put_join (emit (type_part opts p k count e₁) (def_start opts p k count e st)))))))
+      put_group (put_join (put_text (bytes ":=") (put_join (put_text (bytes " ") (put_join (emit (type_part opts p k count e₁) (def_start opts p k count e st)))))))
       ≡ emit (def_part opts p k count e) st
   unfolding def_part def_start join_piece groups_part
   rest_some zero e e₁ st f l d = absurd (f refl)
@@ -345,34 +330,31 @@ module _ (opts : PpOptions) (p : Pool) (k : Stack) (e : Expr) (c : Chained p k 0
 -- ---- whole declarations
 
 -- a stopped sink stays as it is
-joined_stopped : (d : Marked) (st : State) → eqb (sink_of st).stop 0 ≡ false → put_join (emit d st) ≡ st
+joined_stopped : (d : Marked) (st : State) → is_none (written_of st).stop ≡ false → put_join (emit d st) ≡ st
 joined_stopped d st s = ap put_join (emit_stopped d st s) ∙ stays_join st s
 
 join_emits : (a b : Marked) (st : State) → emit (a ⊹ b) st ≡ put_join (emit b (emit a st))
 unfolding emit
 join_emits a b st = refl
 
-module _ {bs ns ws : List ℕ} {t : Tables} {r : ℕ} (a : Declared bs ns ws t r) where
-  abbrev p : Pool
-  p = over bs ns ws
-
+module _ {p : Pool} {r : ℕ} (sound : Sound p) (a : Declared p r) where
   abbrev w : ℕ → ℕ
-  w i = declar_word ws r i
+  w i = declar_word p.words r i
 
   pub declared_row : DeclarRow p r
-  declared_row = declar_row p a.pool.ready.sound r a.row
+  declared_row = declar_row p sound r a.row
 
   module _ (opts : PpOptions) (y n : ℕ) (is : y ≡ w 3) (count : n ≡ chain_length (expr_at p y)) (st : State) where
     abbrev head : State
     head = emit (head_part (w 0) (name_at p (w 1)) (list_at p (w 2))) st
 
-    low : y < E ws
+    low : y < E p.words
     low = let row = declared_row in omega (arith, row.type)
 
     names_put : (d : Marked) → emit (head_part (w 0) (name_at p (w 1)) (list_at p (w 2)) ⊹ in_force (binders (expr_at p y)) 0 d) st ≡ put_join (emit d (put_names y n head))
-    names_put d = join_emits _ (in_force (binders (expr_at p y)) 0 d) st ∙ ap put_join (forced p a.pool.ready.sound y n d head low count)
+    names_put d = join_emits _ (in_force (binders (expr_at p y)) 0 d) st ∙ ap put_join (forced p sound y n d head low count)
 
-    pub def_goes_on : (k : Stack) (v : ℕ) → v ≡ w 4 → InChain bs ns ws t k 0 0 y →
+    pub def_goes_on : (k : Stack) (v : ℕ) → v ≡ w 4 → InChain p k 0 0 y →
         def_parts opts p k (expr_at p y) (expr_at p v) (put_names y n head) ≡ emit (main_def opts (w 0) (name_at p (w 1)) (list_at p (w 2)) (expr_at p (w 3)) (expr_at p (w 4))) st
     unfolding def_parts
     def_goes_on k v z c =
@@ -384,7 +366,7 @@ module _ {bs ns ws : List ℕ} {t : Tables} {r : ℕ} (a : Declared bs ns ws t r
         ∙ join_emits _ (value_part opts p k m.count m.value) st
         ∙ ap (λ (x : State). put_join (emit (value_part opts p k m.count m.value) x)) (names_put (def_part opts p k m.count (expr_at p y))))
 
-    pub axiom_goes_on : (k : Stack) (row m : ℕ) → RunEnd p true y row m → InChain bs ns ws t k 0 0 y →
+    pub axiom_goes_on : (k : Stack) (row m : ℕ) → RunEnd p true y row m → InChain p k 0 0 y →
         put_join (emit (axiom_part opts p k m (expr_at p y)) (put_names y n head)) ≡ emit (main_axiom opts (w 0) (name_at p (w 1)) (list_at p (w 2)) (expr_at p (w 3))) st
     axiom_goes_on k row m end c =
         sym
@@ -392,7 +374,7 @@ module _ {bs ns ws : List ℕ} {t : Tables} {r : ℕ} (a : Declared bs ns ws t r
         ∙ ap (λ (x : Marked). emit x st) (axiom_is opts p k (expr_at p y) c.chained (w 0) (name_at p (w 1)) (list_at p (w 2)) m end.length)
         ∙ names_put (axiom_part opts p k m (expr_at p y)))
 
-    module _ (stopped : eqb (sink_of (put_names y n head)).stop 0 ≡ false) where
+    module _ (stopped : is_none (written_of (put_names y n head)).stop ≡ false) where
       names_stop : (d : Marked) → emit (head_part (w 0) (name_at p (w 1)) (list_at p (w 2)) ⊹ in_force (binders (expr_at p y)) 0 d) st ≡ put_names y n head
       names_stop d = names_put d ∙ joined_stopped d (put_names y n head) stopped
 
@@ -409,30 +391,26 @@ module _ {bs ns ws : List ℕ} {t : Tables} {r : ℕ} (a : Declared bs ns ws t r
 
 -- ---- rows of a chain that starts on the empty stack
 
-module _ {bs ns ws : List ℕ} {t : Tables} {k : Stack} {r : ℕ} (c : InChain bs ns ws t k 0 0 r) where
-  abbrev q : Pool
-  q = over bs ns ws
-
+module _ {q : Pool} {k : Stack} {r : ℕ} (c : InChain q k 0 0 r) where
   -- the first binders' names are on the stack
   pub scope_after : (n : ℕ) → n ≤ chain_length (expr_at q r) → n ≤ k.count
   scope_after n few =
       let len : length (scoped k n n (drop_chain n (expr_at q r))) + n ≡ k.count = after_scope (indented 0) q k (expr_at q r) c.chained n few in
       omega arith
 
-  pub asked-within : (n x : ℕ) → n ≤ k.count → x < E ws → Asked bs ns ws t k n x
-  asked-within n x within low = record { pool = c.asked.pool; held = c.asked.held; scope = within; row = low }
+  pub asked-within : (n x : ℕ) → n ≤ k.count → x < E q.words → Asked q k n x
+  asked-within n x within low = record { held = c.asked.held; scope = within; row = low }
 
-  pub chain_after : (n x : ℕ) → n ≤ chain_length (expr_at q r) → x < E ws → expr_at q x ≡ drop_chain n (expr_at q r) → InChain bs ns ws t k n n x
+  pub chain_after : (n x : ℕ) → n ≤ chain_length (expr_at q r) → x < E q.words → expr_at q x ≡ drop_chain n (expr_at q r) → InChain q k n n x
   chain_after n x few low tree = record { asked = asked-within n x (scope_after n few) low; chained = rw tree (after_chained (indented 0) q k (expr_at q r) c.chained n few) }
 
 pub held_none : (p : Pool) (k : Stack) → Linked k → k.count ≡ 0 → Held p k
 held_none p k l e = record { linked = l; named = λ i h. absurd (omega arith) }
 
-pub chain_alone : {bs ns ws : List ℕ} {t : Tables} (k l : Stack) (r : ℕ) → Pooled bs ns ws t → r < E ws → k.count ≡ 0 →
-    ChainPushed (over bs ns ws) k 0 (expr_at (over bs ns ws) r) l → InChain bs ns ws t l 0 0 r
-chain_alone {bs} {ns} {ws} k l r pool row e c =
+pub chain_alone : {q : Pool} (k l : Stack) (r : ℕ) → r < E q.words → k.count ≡ 0 → ChainPushed q k 0 (expr_at q r) l → InChain q l 0 0 r
+chain_alone k l r row e c =
     record {
-      asked = record { pool = pool; held = c.held; scope = omega arith; row = row };
+      asked = record { held = c.held; scope = omega arith; row = row };
       chained = rw e at c.chained;
     }
 

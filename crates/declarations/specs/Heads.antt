@@ -3,13 +3,11 @@ use Rattle.std.specs.Prelude.{ℕ, zero, suc, ◌<◌, ◌≤◌, Bool, true, fa
 use Rattle.utf8.specs.Quoted.{bytes}
 use Rattle.document.specs.Walk.{Marked, nestᵐ}
 use Rattle.document.specs.Sink.{State, put_join, put_nest, put_group, put_text, emit}
-use Rattle.pool.specs.declared.tables.Tables.{Tables}
 use Rattle.pool.specs.Tables.{Pool, D, E}
 use Rattle.pool.specs.Tree.{Name, Level, Expr}
 use Rattle.pool.specs.Unfold.{expr_at}
 use Rattle.pieces.specs.Docs.{◌⊹◌, quoted, line, G, under}
 use Rattle.binders.specs.declared.stack.Stack.{Stack}
-use Rattle.binders.specs.Asked.{Pooled}
 use Rattle.binders.specs.Binders.{binders}
 use Rattle.declarations.specs.Declars.{keyword, info, can_leave, Taken, taken, def_rest, axiom_rest}
 use Rattle.binders.specs.Scopes.{scoped}
@@ -19,9 +17,8 @@ use Rattle.pretty_printer.specs.Parts.{printed, in_scope, chain_part, groups_par
 use Rattle.binders.specs.Options.{PpOptions}
 
 -- a row of the declarations
-pub record Declared (bs ns ws : List ℕ) (t : Tables) (r : ℕ) : Type 0 where
-  pub pool : Pooled bs ns ws t
-  pub row : r < D ws
+pub record Declared (p : Pool) (r : ℕ) : Type 0 where
+  pub row : r < D p.words
 
 -- a chain's first binder leaves the type: it can, and the value is a lambda
 unfoldable pub can_take : Expr → Expr → Bool

@@ -1,72 +1,66 @@
 // The listings: a whole expression, and a whole declaration.
 ghost use Rattle.std.specs.Prelude.{◌≡◌, ◌<◌};
 ghost use Rattle.pool.specs.Tables.{E, D};
-ghost use Rattle.pool.specs.Areas.{lent};
-ghost use Rattle.pool.specs.Unfold.{expr_at, declar_at};
-ghost use Rattle.document.specs.Sink.{Leaves, emit};
-ghost use Rattle.binders.specs.Options.{options_of};
-ghost use Rattle.binders.specs.Asked.{Pooled};
+ghost use Rattle.binders.specs.Options.{options_of, pool_of};
+ghost use Rattle.pool.specs.Unfold.{expr_at, declar_at, has_value};
+ghost use Rattle.document.specs.Leaves.{Leaves};
+ghost use Rattle.document.specs.Sink.{emit};
 ghost use Rattle.pretty_printer.specs.Exprs.{expr_doc};
 ghost use Rattle.declarations.specs.Declars.{declar_doc};
+ghost use Rattle.declarations.specs.Roots.{row_of, roots_in, root_doc};
 
 use crate::declars::{main_axiom, main_def};
-use basics::bools::both;
 use binders::printer::Printer;
 use binders::stack::Stack;
-use document::sink::{Sink, put_group};
-use pool::fields::declar_kind;
+use document::sink::Sink;
+use pool::fields::DECLAR_KIND;
 use pool::kinds::{DECLAR_INDUCTIVE, DECLAR_THEOREM};
 use pretty_printer::exprs::pp_expr;
 
-// The listing of the expression at row r.
-pub fn print_expr(
-    bytes: &[u8],
-    names: &[u32],
-    words: &[u32],
-    p: Printer,
-    rows: &mut [u32],
-    text: &mut [u8],
-    s: Sink,
-    r: usize,
-) -> Sink
-    requires { (Pooled bytes.now names.now words.now p.tables) × (r < E words.now) }
-    ensures { Leaves rows text s result (emit (expr_doc (options_of p) (expr_at (lent bytes names words) r))) }
-{
-    let s = pp_expr(
-        bytes,
-        names,
-        words,
-        p,
-        rows,
-        text,
-        s,
-        Stack::empty(),
-        0,
-        r,
-        0,
-    );
-    put_group(rows, text, s)
+// What is printed: an expression or a declaration of the pool.
+#[derive(Clone, Copy, Debug, PartialEq, Eq)]
+pub enum Root {
+    Expr { row: usize },
+    Declar { row: usize },
 }
 
-// The listing of the declaration at row r: the kinds 2 to 4 have a value.
-pub fn print_declar(
-    bytes: &[u8],
-    names: &[u32],
-    words: &[u32],
-    p: Printer,
-    rows: &mut [u32],
-    text: &mut [u8],
-    s: Sink,
-    r: usize,
-) -> Sink
-    requires { (Pooled bytes.now names.now words.now p.tables) × (r < D words.now) }
-    ensures { Leaves rows text s result (emit (declar_doc (options_of p) (declar_at (lent bytes names words) r))) }
+// The listing of the expression at row r.
+pub fn print_expr(p: &Printer<'_>, sink: &mut Sink<'_>, r: usize)
+    requires { (r < E (pool_of p.now).words) }
+    ensures { Leaves sink.old sink.new (emit (expr_doc (options_of p.now) (expr_at (pool_of p.now) r))) }
 {
-    let kind = declar_kind(words, p.tables, r);
-    if both(DECLAR_THEOREM <= kind, kind < DECLAR_INDUCTIVE) {
-        let s = main_def(bytes, names, words, p, rows, text, s, r);
-        return put_group(rows, text, s);
+    pp_expr(p, sink, &Stack::empty(), 0, r, 0);
+    sink.put_group()
+}
+
+// Theorems, definitions and opaque constants have a value.
+fn has_value(kind: usize) -> bool
+    ensures { result ≡ has_value kind }
+{
+    (DECLAR_THEOREM..DECLAR_INDUCTIVE).contains(&kind)
+}
+
+// The listing of the declaration at row r.
+pub fn print_declar(p: &Printer<'_>, sink: &mut Sink<'_>, r: usize)
+    requires { (r < D (pool_of p.now).words) }
+    ensures { Leaves sink.old sink.new (emit (declar_doc (options_of p.now) (declar_at (pool_of p.now) r))) }
+{
+    let kind = p.pool.words.declar(r, DECLAR_KIND);
+    if has_value(kind) {
+        main_def(p, sink, r);
+        return sink.put_group();
     }
-    let s = main_axiom(bytes, names, words, p, rows, text, s, r);
-    put_group(rows, text, s)
+    main_axiom(p, sink, r);
+    sink.put_group()
+}
+
+// The listing of a root that the pool has.
+pub fn print(p: &Printer<'_>, sink: &mut Sink<'_>, root: Root)
+    requires { row_of root < roots_in root (pool_of p.now) }
+    ensures { Leaves sink.old sink.new (emit (root_doc root (options_of p.now) (pool_of p.now))) }
+{
+    match root {
+        Root::Expr { row } => print_expr(p, sink, row),
+        Root::Declar { row } => print_declar(p, sink, row),
+    }
 }

@@ -3,16 +3,13 @@ use Prim.Native.Nat.{ℕ, zero, suc, ◌<◌, ◌≤◌}
 use native.Mathlib.Omega.{arith}
 use native.Mathlib.Numerals.{add-one}
 use mathlib.Core.Bool.{Bool, true, false, ◌&&◌, ◌||◌, cond}
-use mathlib.Core.List.{List}
 use mathlib.Core.Path.{◌≡◌, refl, sym, ap, ◌∙◌, subst}
 use lib.Dec.{eqb, leb}
 use borrow.Author.Tests.{eq-eqb, ne_eqb, eqb-true, eqb-false, leb-true}
 use Rattle.basics.proofs.Booleans.{false-true}
-use Rattle.pool.specs.declared.tables.Tables.{Tables}
 use Rattle.pool.specs.Kinds.{expr_kind}
 use Rattle.pool.specs.Tables.{Pool, E, expr_word, string_at}
-use Rattle.pool.specs.Areas.{over}
-use Rattle.pool.specs.Ready.{Ready}
+use Rattle.pool.specs.Sound.{Sound}
 use Rattle.pool.specs.Tree.{shape, lift}
 use Rattle.pool.specs.Unfold.{expr_at}
 use Rattle.pool.proofs.TreeLaws.{lift_none, lift_closed}
@@ -111,62 +108,59 @@ module _ (n : ℕ) (p : Pool) (d c a b : ℕ) where
 
 -- ---- equal exactly where the trees are
 
-module _ (bs ns ws : List ℕ) (t : Tables) (ready : Ready bs ns ws t) where
-  abbrev pool : Pool
-  pool = over bs ns ws
-
+module _ (pool : Pool) (sound : Sound pool) where
   abbrev EqualTo : ℕ → ℕ → Type 0
-  EqualTo n d = (c a b : ℕ) → a < E ws → b < E ws → a < n → is_equal (first_to n pool d c a b) ≡ trees_same pool d c a b
+  EqualTo n d = (c a b : ℕ) → a < E pool.words → b < E pool.words → a < n → is_equal (first_to n pool d c a b) ≡ trees_same pool d c a b
 
   module _ (n d : ℕ) (below : EqualTo n d) where
-    equal_parts : (c a b : ℕ) → a < E ws → b < E ws → a ≤ n → (x y : ℕ) → x ≤ a → y ≤ b → is_equal (first_at n pool d c x y) ≡ same_at pool d c x y
+    equal_parts : (c a b : ℕ) → a < E pool.words → b < E pool.words → a ≤ n → (x y : ℕ) → x ≤ a → y ≤ b → is_equal (first_at n pool d c x y) ≡ same_at pool d c x y
     unfolding is_equal first_at same_at
     equal_parts c a b ha hb h zero zero gx gy = refl
     equal_parts c a b ha hb h zero (suc y) gx gy = refl
     equal_parts c a b ha hb h (suc x) zero gx gy = refl
     equal_parts c a b ha hb h (suc x) (suc y) gx gy = below c x y (omega arith) (omega arith) (omega arith)
 
-    module _ (c a b : ℕ) (ha : a < E ws) (hb : b < E ws) (h : a ≤ n) where
+    module _ (c a b : ℕ) (ha : a < E pool.words) (hb : b < E pool.words) (h : a ≤ n) where
       abbrev kind : ℕ
-      kind = expr_word ws a 0
+      kind = expr_word pool.words a 0
 
-      one_lower : kind ≡ expr_word ws b 0
-          → (body_part ws b kind ≤ b) × (second_part ws b kind ≤ b) × (first_part ws b kind ≤ b)
+      one_lower : kind ≡ expr_word pool.words b 0
+          → (body_part pool.words b kind ≤ b) × (second_part pool.words b kind ≤ b) × (first_part pool.words b kind ≤ b)
       one_lower e =
-          rw e (body_lower pool ready.sound b hb, second_lower pool ready.sound b hb, first_lower pool ready.sound b hb)
+          rw e (body_lower pool sound b hb, second_lower pool sound b hb, first_lower pool sound b hb)
 
-      all_parts : kind ≡ expr_word ws b 0 → is_equal (parts_at n pool d c a b kind) ≡ parts_same pool d c a b kind
+      all_parts : kind ≡ expr_word pool.words b 0 → is_equal (parts_at n pool d c a b kind) ≡ parts_same pool d c a b kind
       unfolding parts_at parts_same
       all_parts e =
           let lower = one_lower e in
-          let body = equal_parts (suc c) a b ha hb h (body_part ws a kind) (body_part ws b kind) (body_lower pool ready.sound a ha) lower.0 in
-          let second = equal_parts c a b ha hb h (second_part ws a kind) (second_part ws b kind) (second_lower pool ready.sound a ha) lower.1 in
-          let first = equal_parts c a b ha hb h (first_part ws a kind) (first_part ws b kind) (first_lower pool ready.sound a ha) lower.2 in
-          equal_both _ _ ∙ ap (λ (v : Bool). is_equal (first_at n pool d (suc c) (body_part ws a kind) (body_part ws b kind)) && v) (equal_both _ _)
+          let body = equal_parts (suc c) a b ha hb h (body_part pool.words a kind) (body_part pool.words b kind) (body_lower pool sound a ha) lower.0 in
+          let second = equal_parts c a b ha hb h (second_part pool.words a kind) (second_part pool.words b kind) (second_lower pool sound a ha) lower.1 in
+          let first = equal_parts c a b ha hb h (first_part pool.words a kind) (first_part pool.words b kind) (first_lower pool sound a ha) lower.2 in
+          equal_both _ _ ∙ ap (λ (v : Bool). is_equal (first_at n pool d (suc c) (body_part pool.words a kind) (body_part pool.words b kind)) && v) (equal_both _ _)
           ∙ rw (body, second, first)
-          (turned (same_at pool d (suc c) (body_part ws a kind) (body_part ws b kind)) (same_at pool d c (second_part ws a kind) (second_part ws b kind))
-          (same_at pool d c (first_part ws a kind) (first_part ws b kind)))
+          (turned (same_at pool d (suc c) (body_part pool.words a kind) (body_part pool.words b kind)) (same_at pool d c (second_part pool.words a kind) (second_part pool.words b kind))
+          (same_at pool d c (first_part pool.words a kind) (first_part pool.words b kind)))
 
       equal_next : is_equal (first_to (suc n) pool d c a b) ≡ trees_same pool d c a b
       unfolding is_equal
-      equal_next = by (eqb kind (expr_word ws b 0)) refl
+      equal_next = by (eqb kind (expr_word pool.words b 0)) refl
         where
           small : kind < 10
-          small = kind_small pool ready.sound a ha
+          small = kind_small pool sound a ha
 
-          fields : kind ≡ expr_word ws b 0 → (v : Bool) → fields_same pool d c a b kind ≡ v → is_equal (first_to (suc n) pool d c a b) ≡ trees_same pool d c a b
+          fields : kind ≡ expr_word pool.words b 0 → (v : Bool) → fields_same pool d c a b kind ≡ v → is_equal (first_to (suc n) pool d c a b) ≡ trees_same pool d c a b
           fields e true f =
               ap is_equal (by_parts n pool d c a b small e f) ∙ all_parts e
-              ∙ sym (by_kind pool ready.sound a b ha hb d c kind refl (sym e) ∙ rw f)
+              ∙ sym (by_kind pool sound a b ha hb d c kind refl (sym e) ∙ rw f)
           fields e false f =
-              ap is_equal (fields_differ n pool d c a b small e f) ∙ sym (by_kind pool ready.sound a b ha hb d c kind refl (sym e) ∙ rw f)
+              ap is_equal (fields_differ n pool d c a b small e f) ∙ sym (by_kind pool sound a b ha hb d c kind refl (sym e) ∙ rw f)
 
-          by : (v : Bool) → eqb kind (expr_word ws b 0) ≡ v → is_equal (first_to (suc n) pool d c a b) ≡ trees_same pool d c a b
+          by : (v : Bool) → eqb kind (expr_word pool.words b 0) ≡ v → is_equal (first_to (suc n) pool d c a b) ≡ trees_same pool d c a b
           by true e = fields (eqb-true _ _ e) (fields_same pool d c a b kind) refl
           by false e =
-              let q = eqb-false kind (expr_word ws b 0) e in
+              let q = eqb-false kind (expr_word pool.words b 0) e in
               ap is_equal (kinds_differ n pool d c a b small q)
-              ∙ sym ((other_labels bs ns ws t ready a b ha hb d c kind (expr_word ws b 0) refl refl q).different refl)
+              ∙ sym ((other_labels pool sound a b ha hb d c kind (expr_word pool.words b 0) refl refl q).told false refl)
 
   pub equal_trees : (n d : ℕ) → EqualTo n d
   equal_trees zero d c a b ha hb h = absurd (omega arith)
@@ -174,16 +168,16 @@ module _ (bs ns ws : List ℕ) (t : Tables) (ready : Ready bs ns ws t) where
 
   -- ---- what lifting leaves as it is
 
-  plain-lift : (d c a : ℕ) → a < E ws → is_plain ws d c a ≡ true → lift d c (expr_at pool a) ≡ expr_at pool a
+  plain-lift : (d c a : ℕ) → a < E pool.words → is_plain pool.words d c a ≡ true → lift d c (expr_at pool a) ≡ expr_at pool a
   plain-lift d c a h e = by (eqb d 0) refl
     where
       by : (v : Bool) → eqb d 0 ≡ v → lift d c (expr_at pool a) ≡ expr_at pool a
       by true q = ap (λ (i : ℕ). lift i c (expr_at pool a)) (eqb-true d 0 q) ∙ lift_none c (expr_at pool a)
       by false q =
-          let l : leb (expr_word ws a 7) c ≡ true = ap (λ (v : Bool). v || leb (expr_word ws a 7) c) (sym q) ∙ e in
-          lift_closed d c (expr_at pool a) (subst (λ (i : ℕ). i ≤ c) (loose-word pool ready.sound a h) (leb-true (expr_word ws a 7) c l))
+          let l : leb (expr_word pool.words a 7) c ≡ true = ap (λ (v : Bool). v || leb (expr_word pool.words a 7) c) (sym q) ∙ e in
+          lift_closed d c (expr_at pool a) (subst (λ (i : ℕ). i ≤ c) (loose-word pool sound a h) (leb-true (expr_word pool.words a 7) c l))
 
-  module _ (d c a b : ℕ) (ha : a < E ws) (hb : b < E ws) (plain : is_plain ws d c a ≡ true) where
+  module _ (d c a b : ℕ) (ha : a < E pool.words) (hb : b < E pool.words) (plain : is_plain pool.words d c a ≡ true) where
     pub known_equal : tree_at pool a ≡ tree_at pool b → (n : ℕ) → a < n → first_to n pool d c a b ≡ equal
     known_equal e n h =
         equal_is _ (equal_trees n d c a b ha hb h ∙ is_same pool d c a b (ap shape (plain-lift d c a ha plain) ∙ e))

@@ -2,84 +2,97 @@
 use Prim.Native.Nat.{ℕ, zero, suc, ◌+◌, ◌-◌, ◌<◌, ◌≤◌}
 use native.Mathlib.Omega.{arith}
 use native.Mathlib.Numerals.{add-one}
-use mathlib.Core.Bool.{Bool, true, false, ◌&&◌}
+use mathlib.Core.Bool.{Bool, true, false}
 use mathlib.Core.List.{List}
-use mathlib.Core.Path.{◌≡◌, refl, sym, ap, ap₂, ◌∙◌}
 use lib.Dec.{eqb}
-use borrow.Author.Tests.{eqb-true}
-use Rattle.basics.proofs.Booleans.{true-false, and_both, and_left}
-use Rattle.pool.specs.declared.tables.Tables.{Tables}
+use borrow.Author.Tests.{eqb-true, eqb-false}
+use mathlib.Core.Logic.{◌⊎◌, inl, inr}
+use mathlib.Core.Path.{◌≡◌, refl, sym, ap, ap₂, ◌∙◌, subst}
+use Rattle.std.specs.Prelude.{Option, Some, None}
 use Rattle.pool.specs.Tables.{Pool, E, expr_word}
-use Rattle.pool.specs.Areas.{over}
+use Rattle.pool.specs.Sound.{Sound}
 use Rattle.pool.proofs.ExprUnfolds.{kind_small}
 use Rattle.occurrence.specs.Parts.{first_part, second_part, body_part}
 use Rattle.occurrence.proofs.PartLaws.{first_lower, second_lower, body_lower}
-use Rattle.compare.specs.Equal.{fields_same, OneKind}
+use Rattle.compare.specs.Equal.{fields_same}
 use Rattle.links.specs.Links.{Owes}
 use Rattle.equality.specs.Sweep.{tree_at}
-use Rattle.difference.specs.Order.{equal, ◌and_then◌, first_to}
-use Rattle.difference.specs.Walks.{is_plain, Classed, KeepsIf, TwoRows, first_at, parts_at, AtOnce, Tells, TwoParts, Walked}
+use Rattle.difference.specs.declared.walk.Found.{Found}
+use Rattle.difference.specs.declared.walk.Found.TheVariants.{Equal, Unknown}
+use Rattle.difference.specs.Order.{Comparison, equal, differ, ◌and_then◌, first_to}
+use Rattle.difference.specs.Walks.{is_plain, Classed, KeepsIf, TwoRows, first_at, parts_at, AtOnce, Tells, TwoParts, pair_unless, Walked}
 use Rattle.difference.proofs.OrderLaws.{kinds_differ, fields_differ, by_parts, known_equal, equal_known}
 
 -- ---- two rows by themselves
 
-module _ (bs ns ws : List ℕ) (t : Tables) (known : Bool) (d c a b : ℕ) (s : TwoRows bs ns ws t known a b) where
-  abbrev pool : Pool
-  pool = over bs ns ws
+module _ (pool : Pool) (sound : Sound pool) (known : Bool) (d c a b : ℕ) (s : TwoRows pool known a b) where
+  small : expr_word pool.words a 0 < 10
+  small = kind_small pool sound a s.a_row
 
-  small : expr_word ws a 0 < 10
-  small = kind_small pool s.ready.sound a s.a_row
+  -- they are equal, and so say no other answers
+  equal_at_once : ((n : ℕ) → a < n → first_to n pool d c a b ≡ equal) → AtOnce pool d c a b (Some true)
+  equal_at_once f = record { no = λ e. cc; yes = λ e. f; one = λ e. cc; left = λ e. cc }
 
-  pub known_at_once : (v w : Bool) → v ≡ known && w → w ≡ is_plain ws d c a → v ≡ true → AtOnce pool d c a b 1
-  known_at_once v w ev ew y =
-      let h = and_both known w (sym ev ∙ y) in
-      record {
-        no = λ e. absurd (omega arith);
-        yes = λ e. known_equal bs ns ws t s.ready d c a b s.a_row s.b_row (sym ew ∙ h.1) (s.known_so h.0);
-        one = λ m n. absurd (n refl);
-        left = λ m n. absurd (n refl);
-      }
+  differ_at_once : ((n : ℕ) → first_to (suc n) pool d c a b ≡ differ a b) → AtOnce pool d c a b (Some false)
+  differ_at_once f = record { no = λ e. f; yes = λ e. cc; one = λ e. cc; left = λ e. cc }
 
-  module _ (x y : ℕ) (ex : x ≡ expr_word ws a 0) (ey : y ≡ expr_word ws b 0) where
-    pub kinds_at_once : (x ≡ y → ⊥) → AtOnce pool d c a b 0
-    kinds_at_once q =
-        record {
-          no = λ e n. kinds_differ n pool d c a b small (λ z. q (ex ∙ z ∙ sym ey));
-          yes = λ e. absurd (omega arith);
-          one = λ m n. absurd (m refl);
-          left = λ m n. absurd (m refl);
-        }
+  pub known_at_once : known ≡ true → is_plain pool.words d c a ≡ true → AtOnce pool d c a b (Some true)
+  known_at_once k plain = equal_at_once (known_equal pool sound d c a b s.a_row s.b_row plain (s.known_so k))
 
-    module _ (q : x ≡ y) where
-      one_kind : expr_word ws a 0 ≡ expr_word ws b 0
+  module _ (x y : ℕ) (ex : x ≡ expr_word pool.words a 0) (ey : y ≡ expr_word pool.words b 0) where
+    pub kinds_at_once : (x ≡ y → ⊥) → AtOnce pool d c a b (Some false)
+    kinds_at_once q = differ_at_once (λ n. kinds_differ n pool d c a b small (λ z. q (ex ∙ z ∙ sym ey)))
+
+    module _ (q : x ≡ y) (v : Bool) (ev : v ≡ fields_same pool d c a b x) where
+      one_kind : expr_word pool.words a 0 ≡ expr_word pool.words b 0
       one_kind = sym ex ∙ q ∙ ey
 
-      pub ask_fields : OneKind bs ns ws t a b x
-      ask_fields = record { ready = s.ready; a_row = s.a_row; b_row = s.b_row; a_kind = ex; b_kind = q ∙ ey }
+      fields_are : fields_same pool d c a b (expr_word pool.words a 0) ≡ v
+      fields_are = sym (ev ∙ ap (fields_same pool d c a b) ex)
 
-      module _ (v : Bool) (ev : v ≡ fields_same pool d c a b x) where
-        fields_are : fields_same pool d c a b (expr_word ws a 0) ≡ v
-        fields_are = sym (ev ∙ ap (fields_same pool d c a b) ex)
+      pub fields_at_once : v ≡ false → AtOnce pool d c a b (Some false)
+      fields_at_once e = differ_at_once (λ n. fields_differ n pool d c a b small one_kind (fields_are ∙ e))
 
-        pub fields_at_once : v ≡ false → AtOnce pool d c a b 0
-        fields_at_once e =
-            record {
-              no = λ z n. fields_differ n pool d c a b small one_kind (fields_are ∙ e);
-              yes = λ z. absurd (omega arith);
-              one = λ m n. absurd (m refl);
-              left = λ m n. absurd (m refl);
-            }
+      pub parts_at_once : v ≡ true → AtOnce pool d c a b None
+      parts_at_once e =
+          record { no = λ z. cc; yes = λ z. cc; one = λ z. one_kind; left = λ z n. by_parts n pool d c a b small one_kind (fields_are ∙ e) }
 
-        pub parts_at_once : v ≡ true → AtOnce pool d c a b 2
-        parts_at_once e =
-            record {
-              no = λ z. absurd (omega arith);
-              yes = λ z. absurd (omega arith);
-              one = λ m n. one_kind;
-              left = λ m n i. by_parts i pool d c a b small one_kind (fields_are ∙ e);
-            }
+-- ---- parts that are not there
 
--- ---- two parts
+pair_told : (k : Comparison) (v : Found) (same : Bool) (a b : ℕ) → v ≡ pair_unless same a b → (same ≡ true → k ≡ equal) → (same ≡ false → k ≡ differ a b) → Tells k v
+pair_told k v true a b e f g = record { no = λ x y z. cc; yes = λ z. f refl }
+pair_told k v false a b e f g = record { no = λ x y z. g refl ∙ cc; yes = λ z. cc }
+
+pair_sure : (v : Found) (same : Bool) (a b : ℕ) → v ≡ pair_unless same a b → v ≡ Unknown → ⊥
+pair_sure v true a b e z = cc
+pair_sure v false a b e z = cc
+
+module _ (pool : Pool) (d c : ℕ) (kept : List ℕ) (steps : Option ℕ) where
+  none_there : (x y : ℕ) → (x ≡ 0) ⊎ ((x ≡ 0 → ⊥) × (y ≡ 0)) → x ≡ y → (n : ℕ) → first_at n pool d c x y ≡ equal
+  unfolding first_at
+  none_there zero zero h e n = refl
+  none_there zero (suc y) h e n = absurd (omega arith)
+  none_there (suc x) zero h e n = absurd (omega arith)
+  none_there (suc x) (suc y) h e n = absurd (elim h [ inl p ↦ (omega arith) | inr p ↦ (omega (arith, p.1)) ])
+
+  one_there : (x y : ℕ) → (x ≡ 0) ⊎ ((x ≡ 0 → ⊥) × (y ≡ 0)) → (x ≡ y → ⊥) → (n : ℕ) → first_at n pool d c x y ≡ differ 0 0
+  unfolding first_at
+  one_there zero zero h e n = absurd (e refl)
+  one_there zero (suc y) h e n = refl
+  one_there (suc x) zero h e n = refl
+  one_there (suc x) (suc y) h e n = absurd (elim h [ inl p ↦ (omega arith) | inr p ↦ (omega (arith, p.1)) ])
+
+  module _ (x y : ℕ) (h : (x ≡ 0) ⊎ ((x ≡ 0 → ⊥) × (y ≡ 0))) (s : TwoParts pool kept x y c) where
+    pub walked_absent : (v : Found) → v ≡ pair_unless (eqb x y) 0 0 → Walked pool d c x y steps steps kept v
+    walked_absent v e =
+        record {
+          told = λ n g. pair_told _ v _ 0 0 e (λ q. none_there x y h (eqb-true x y q) n) (λ q. one_there x y h (eqb-false x y q) n);
+          true_still = s.true_so_far;
+          unlimited = λ z. z;
+          sure = λ z. pair_sure v _ 0 0 e;
+        }
+
+-- ---- two rows
 
 at_both : (n : ℕ) (p : Pool) (d c x y : ℕ) → (x ≡ 0 → ⊥) → (y ≡ 0 → ⊥) → first_at n p d c x y ≡ first_to n p d c (x - 1) (y - 1)
 unfolding first_at
@@ -88,163 +101,165 @@ at_both n p d c (suc x) zero h g = absurd (g refl)
 at_both n p d c (suc x) (suc y) h g =
     ap₂ (first_to n p d c) (let e : x ≡ suc x - 1 = omega arith in e) (let e : y ≡ suc y - 1 = omega arith in e)
 
-module _ (bs ns ws : List ℕ) (t : Tables) (kept : List ℕ) (d x y c : ℕ) (limited : Bool) (s : TwoParts bs ns ws t kept x y c) where
-  abbrev p : Pool
-  p = over bs ns ws
+-- two rows that are there, before the step s and after it
+pub record Rows (pool : Pool) (d x y c : ℕ) (s s' : Option ℕ) : Type 0 where
+  pub x_there : x ≡ 0 → ⊥
+  pub y_there : y ≡ 0 → ⊥
+  pub x_row : x ≤ E pool.words
+  pub y_row : y ≤ E pool.words
+  pub room : c + x ≤ 1099511627776
+  pub unlimited : s ≡ None → s' ≡ None
 
-  abbrev Walks : List ℕ → ℕ → ℕ → ℕ → Type 0
-  Walks = Walked p d c x y limited
+pub rows_of : (pool : Pool) (kept : List ℕ) (d x y c : ℕ) (s s' : Option ℕ) (r : Bool) → TwoParts pool kept x y c → (x ≡ 0 → ⊥) → (y ≡ 0 → ⊥)
+    → (s ≡ None → (r ≡ true) × (s' ≡ None)) → Rows pool d x y c s s'
+rows_of pool kept d x y c s s' r t nx ny u =
+    record { x_there = nx; y_there = ny; x_row = t.x_row; y_row = t.y_row; room = t.room; unlimited = λ e. (u e).1 }
 
-  absent : (n i j v : ℕ) → i ≡ 0 → (v ≡ 1 → j ≡ 0) × (v ≡ 0 → j ≡ 0 → ⊥) × (v < 2) → Tells (first_at n p d c i j) v 0 0
-  unfolding first_at
-  absent n zero zero v e h = record { no = λ z. absurd (h.1 z refl); yes = λ z. refl }
-  absent n zero (suc j) v e h = record { no = λ z. refl; yes = λ z. absurd (let q : suc j ≡ 0 = h.0 z in omega arith) }
-  absent n (suc i) j v e h = absurd (omega arith)
+module _ {pool : Pool} {d x y c : ℕ} {s s' : Option ℕ} (r : Rows pool d x y c s s') where
+  rows_there : (x - 1 < E pool.words) × (y - 1 < E pool.words)
+  rows_there = (omega (arith, r.x_row, r.x_there), omega (arith, r.y_row, r.y_there))
 
-  pub walked_absent : x ≡ 0 → (v : ℕ) → (v ≡ 1 → y ≡ 0) × (v ≡ 0 → y ≡ 0 → ⊥) × (v < 2) → Walks kept v 0 0
-  walked_absent e v h = record { told = λ n g. absent n x y v e h; true_still = s.true_so_far; sure = λ z. h.2 }
+  pub ask_rows : {kept kept' : List ℕ} {known : Bool} → TwoParts pool kept x y c → Classed kept kept' (x - 1) (y - 1) known → TwoRows pool known (x - 1) (y - 1)
+  ask_rows t k =
+      record { a_row = rows_there.0; b_row = rows_there.1; known_so = λ e. k.one e (tree_at pool) t.true_so_far }
 
-  alone : (n i j : ℕ) → (i ≡ 0 → ⊥) → j ≡ 0 → Tells (first_at n p d c i j) 0 0 0
-  unfolding first_at
-  alone n zero j h e = absurd (h refl)
-  alone n (suc i) zero h e = record { no = λ z. refl; yes = λ z. absurd (omega arith) }
-  alone n (suc i) (suc j) h e = absurd (omega arith)
+  pub still : {kept kept' : List ℕ} {known : Bool} → TwoParts pool kept x y c → Classed kept kept' (x - 1) (y - 1) known → Owes (tree_at pool) (tree_at pool) kept'
+  still t k = k.keeps (tree_at pool) t.true_so_far
 
-  pub walked_alone : (x ≡ 0 → ⊥) → y ≡ 0 → Walks kept 0 0 0
-  walked_alone h e = record { told = λ n g. alone n x y h e; true_still = s.true_so_far; sure = λ z. omega arith }
+  told_of : (f : Found) → ((n : ℕ) → x ≤ suc n → Tells (first_to (suc n) pool d c (x - 1) (y - 1)) f) → (n : ℕ) → x ≤ n → Tells (first_at n pool d c x y) f
+  told_of f t zero g = absurd (r.x_there (omega arith))
+  told_of f t (suc n) g = subst (λ (k : Comparison). Tells k f) (sym (at_both (suc n) pool d c x y r.x_there r.y_there)) (t n g)
 
-  pub walked_out : (v w : Bool) → v ≡ limited && w → v ≡ true → Walks kept 2 0 0
-  walked_out v w e y =
-      record {
-        told = λ n g. record { no = λ z. absurd (omega arith); yes = λ z. absurd (omega arith) };
-        true_still = s.true_so_far;
-        sure = λ z. true-false (sym (and_left limited w (sym e ∙ y)) ∙ z);
-      }
+  module _ {kept : List ℕ} (true_still : Owes (tree_at pool) (tree_at pool) kept) {v : Option Bool} (quick : AtOnce pool d c (x - 1) (y - 1) v) where
+    pub walked_quick : {same : Bool} → v ≡ Some same → {f : Found} → f ≡ pair_unless same (x - 1) (y - 1) → Walked pool d c x y s s' kept f
+    walked_quick {same = same} i {f = f} e =
+        record {
+          told = told_of f (λ n g. pair_told _ f same _ _ e (λ q. quick.yes (i ∙ ap Some q) (suc n) (omega arith)) (λ q. quick.no (i ∙ ap Some q) n));
+          true_still = true_still;
+          unlimited = r.unlimited;
+          sure = λ z. pair_sure f same _ _ e;
+        }
 
-  module _ (nx : x ≡ 0 → ⊥) (ny : y ≡ 0 → ⊥) where
-    rows_there : (x - 1 < E ws) × (y - 1 < E ws)
-    rows_there = (omega (arith, s.x_row, nx), omega (arith, s.y_row, ny))
+-- ---- the parts of two rows of one kind
 
-    module _ (kept₀ : List ℕ) (known : Bool) (k₀ : Classed kept kept₀ (x - 1) (y - 1) known) where
-      still₀ : Owes (tree_at p) (tree_at p) kept₀
-      still₀ = k₀.keeps (tree_at p) s.true_so_far
+-- what is looked at first decides, unless it is equal
+told_first : (k l : Comparison) (v : Found) → Tells k v → (v ≡ Equal → ⊥) → Tells (k and_then l) v
+unfolding ◌and_then◌
+told_first k l v t n = record { no = λ a b e. rw (t.no a b e); yes = λ e. absurd (n e) }
 
-      pub ask_rows : TwoRows bs ns ws t known (x - 1) (y - 1)
-      ask_rows =
-          record { ready = s.ready; a_row = rows_there.0; b_row = rows_there.1; known_so = λ e. k₀.one e (tree_at p) s.true_so_far }
+told_next : (k l : Comparison) (v : Found) → k ≡ equal → Tells l v → Tells (k and_then l) v
+unfolding ◌and_then◌
+told_next k l v e t = rw e t
 
-      module _ (q : ℕ) (quick : AtOnce p d c (x - 1) (y - 1) q) where
-        quick_told : (n : ℕ) → x ≤ n → Tells (first_at n p d c x y) q (x - 1) (y - 1)
-        quick_told zero g = absurd (nx (omega arith))
-        quick_told (suc n) g =
-            record {
-              no = λ z. at_both (suc n) p d c x y nx ny ∙ quick.no z n;
-              yes = λ z. at_both (suc n) p d c x y nx ny ∙ quick.yes z (suc n) (omega arith);
-            }
+-- two rows of the kind k whose parts say whether they are equal
+pub record Open (pool : Pool) (d x y c : ℕ) (s s' : Option ℕ) (kind : ℕ) : Type 0 where
+  pub rows : Rows pool d x y c s s'
+  pub x_kind : kind ≡ expr_word pool.words (x - 1) 0
+  pub y_kind : kind ≡ expr_word pool.words (y - 1) 0
+  pub by : (n : ℕ) → first_to (suc n) pool d c (x - 1) (y - 1) ≡ parts_at n pool d c (x - 1) (y - 1) kind
 
-        pub walked_quick : q < 2 → Walks kept₀ q (x - 1) (y - 1)
-        walked_quick h = record { told = quick_told; true_still = still₀; sure = λ z. h }
+pub open_rows : {pool : Pool} {d x y c : ℕ} {s s' : Option ℕ} → Rows pool d x y c s s' → {v : Option Bool} → AtOnce pool d c (x - 1) (y - 1) v → v ≡ None
+    → {kind : ℕ} → kind ≡ expr_word pool.words (x - 1) 0 → Open pool d x y c s s' kind
+open_rows {pool = pool} {d = d} {x = x} {y = y} {c = c} r quick e ek =
+    record { rows = r; x_kind = ek; y_kind = ek ∙ quick.one e; by = λ n. quick.left e n ∙ ap (parts_at n pool d c (x - 1) (y - 1)) (sym ek) }
 
-        module _ (h : 2 ≤ q) (kind : ℕ) (ek : kind ≡ expr_word ws (x - 1) 0) where
-          whole : (n : ℕ) → first_at (suc n) p d c x y ≡ parts_at n p d c (x - 1) (y - 1) kind
-          whole n =
-              at_both (suc n) p d c x y nx ny ∙ quick.left (λ e. omega arith) (λ e. omega arith) n ∙ ap (parts_at n p d c (x - 1) (y - 1)) (sym ek)
+module _ {pool : Pool} (sound : Sound pool) {d x y c : ℕ} {s s' : Option ℕ} {kind : ℕ} (o : Open pool d x y c s s' kind) where
+  abbrev ws : List ℕ
+  ws = pool.words
 
-          kind_y : expr_word ws (y - 1) 0 ≡ kind
-          kind_y = sym (quick.one (λ e. omega arith) (λ e. omega arith)) ∙ sym ek
+  abbrev a : ℕ
+  a = x - 1
 
-          abbrev Asks : List ℕ → ℕ → ℕ → ℕ → Type 0
-          Asks l u w e = (u < x) × TwoParts bs ns ws t l u w e
+  abbrev b : ℕ
+  b = y - 1
 
-          below : (l : List ℕ) (u w e : ℕ) → Owes (tree_at p) (tree_at p) l → u ≤ x - 1 → w ≤ y - 1 → e + u ≤ c + x → Asks l u w e
-          below l u w e o g f r = (
-            omega (arith, nx),
-            record { ready = s.ready; x_row = omega (arith, rows_there.0); y_row = omega (arith, rows_there.1); room = omega (arith, s.room); true_so_far = o },
-          )
+  there : (a < E ws) × (b < E ws)
+  there = rows_there o.rows
 
-          module _ (x₁ y₁ : ℕ) (e₁ : x₁ ≡ body_part ws (x - 1) kind) (f₁ : y₁ ≡ body_part ws (y - 1) kind) where
-            lower₁ : x₁ ≤ x - 1
-            lower₁ = rw (e₁, ek) (body_lower p s.ready.sound (x - 1) rows_there.0)
+  -- parts that are lower are asked for
+  abbrev Asks : List ℕ → ℕ → ℕ → ℕ → Type 0
+  Asks l u w e = (u < x) × TwoParts pool l u w e
 
-            pub ask_bodies : Asks kept₀ x₁ y₁ (c + 1)
-            ask_bodies =
-                let f : y₁ ≤ y - 1 = rw (f₁, ← kind_y) (body_lower p s.ready.sound (y - 1) rows_there.1) in
-                below kept₀ x₁ y₁ (c + 1) still₀ lower₁ f (omega (arith, lower₁, nx))
+  below : (l : List ℕ) (u w e : ℕ) → Owes (tree_at pool) (tree_at pool) l → u ≤ a → w ≤ b → e ≤ c + 1 → Asks l u w e
+  below l u w e q g f r = (
+    omega (arith, o.rows.x_there),
+    record {
+      x_row = omega (arith, there.0);
+      y_row = omega (arith, there.1);
+      room = omega (arith, o.rows.room, o.rows.x_there);
+      true_so_far = q;
+    },
+  )
 
-            module _ (l₁ : List ℕ) (v₁ a₁ b₁ : ℕ) (w₁ : Walked p d (c + 1) x₁ y₁ limited l₁ v₁ a₁ b₁) where
-              bodies : (n : ℕ) → first_at n p d (suc c) (body_part ws (x - 1) kind) (body_part ws (y - 1) kind) ≡ first_at n p d (c + 1) x₁ y₁
-              bodies n = rw (add-one c, e₁, f₁)
+  -- what the parts tell, at each bound
+  abbrev Says : (ℕ → Comparison) → Found → Type 0
+  Says k v = (n : ℕ) → x ≤ suc n → Tells (k n) v
 
-              body_told : (v₁ ≡ 1 → ⊥) → (n : ℕ) → x ≤ n → Tells (first_at n p d c x y) v₁ a₁ b₁
-              unfolding parts_at ◌and_then◌
-              body_told m zero g = absurd (nx (omega arith))
-              body_told m (suc n) g =
-                  record { no = λ z. whole n ∙ rw (bodies n, (w₁.told n (omega (arith, lower₁))).no z); yes = λ z. absurd (m z) }
+  abbrev body : ℕ → Comparison
+  body n = first_at n pool d (suc c) (body_part ws a kind) (body_part ws b kind)
 
-              pub walked_body : (v₁ ≡ 1 → ⊥) → Walks l₁ v₁ a₁ b₁
-              walked_body m = record { told = body_told m; true_still = w₁.true_still; sure = w₁.sure }
+  abbrev second : ℕ → Comparison
+  second n = first_at n pool d c (second_part ws a kind) (second_part ws b kind)
 
-              module _ (o₁ : v₁ ≡ 1) (x₂ y₂ : ℕ) (e₂ : x₂ ≡ second_part ws (x - 1) kind) (f₂ : y₂ ≡ second_part ws (y - 1) kind) where
-                lower₂ : x₂ ≤ x - 1
-                lower₂ = rw (e₂, ek) (second_lower p s.ready.sound (x - 1) rows_there.0)
+  abbrev first : ℕ → Comparison
+  first n = first_at n pool d c (first_part ws a kind) (first_part ws b kind)
 
-                pub ask_seconds : Asks l₁ x₂ y₂ c
-                ask_seconds =
-                    let f : y₂ ≤ y - 1 = rw (f₂, ← kind_y) (second_lower p s.ready.sound (y - 1) rows_there.1) in
-                    below l₁ x₂ y₂ c w₁.true_still lower₂ f (omega (arith, lower₂, nx))
+  told : (v : Found) → Says (λ n. body n and_then (second n and_then first n)) v → (n : ℕ) → x ≤ n → Tells (first_at n pool d c x y) v
+  unfolding parts_at
+  told v t zero g = absurd (o.rows.x_there (omega arith))
+  told v t (suc n) g =
+      subst (λ (k : Comparison). Tells k v) (sym (at_both (suc n) pool d c x y o.rows.x_there o.rows.y_there ∙ o.by n)) (t n g)
 
-                module _ (l₂ : List ℕ) (v₂ a₂ b₂ : ℕ) (w₂ : Walked p d c x₂ y₂ limited l₂ v₂ a₂ b₂) where
-                  seconds : (n : ℕ) → first_at n p d c (second_part ws (x - 1) kind) (second_part ws (y - 1) kind) ≡ first_at n p d c x₂ y₂
-                  seconds n = ap₂ (first_at n p d c) (sym e₂) (sym f₂)
+  module _ {u w : ℕ} (eu : u ≡ body_part ws a kind) (ew : w ≡ body_part ws b kind) where
+    body_low : (u ≤ a) × (w ≤ b)
+    body_low = (rw (eu, o.x_kind) (body_lower pool sound a there.0), rw (ew, o.y_kind) (body_lower pool sound b there.1))
 
-                  body_equal : (n : ℕ) → x ≤ suc n → first_at n p d (c + 1) x₁ y₁ ≡ equal
-                  body_equal n g = (w₁.told n (omega (arith, lower₁))).yes o₁
+    pub ask_bodies : {l : List ℕ} → Owes (tree_at pool) (tree_at pool) l → Asks l u w (c + 1)
+    ask_bodies {l = l} q = below l u w (c + 1) q body_low.0 body_low.1 (omega arith)
 
-                  second_told : (v₂ ≡ 1 → ⊥) → (n : ℕ) → x ≤ n → Tells (first_at n p d c x y) v₂ a₂ b₂
-                  unfolding parts_at ◌and_then◌
-                  second_told m zero g = absurd (nx (omega arith))
-                  second_told m (suc n) g =
-                      record {
-                        no = λ z. whole n ∙ rw (bodies n, body_equal n g, seconds n, (w₂.told n (omega (arith, lower₂))).no z);
-                        yes = λ z. absurd (m z);
-                      }
+    pub bodies : {t t' : Option ℕ} {l : List ℕ} {v : Found} → Walked pool d (c + 1) u w t t' l v → Says body v
+    bodies k n g = rw (← add-one c, ← eu, ← ew) (k.told n (omega (arith, body_low.0, o.rows.x_there)))
 
-                  pub walked_second : (v₂ ≡ 1 → ⊥) → Walks l₂ v₂ a₂ b₂
-                  walked_second m = record { told = second_told m; true_still = w₂.true_still; sure = w₂.sure }
+  module _ {u w : ℕ} (eu : u ≡ second_part ws a kind) (ew : w ≡ second_part ws b kind) where
+    second_low : (u ≤ a) × (w ≤ b)
+    second_low = (rw (eu, o.x_kind) (second_lower pool sound a there.0), rw (ew, o.y_kind) (second_lower pool sound b there.1))
 
-                  module _ (o₂ : v₂ ≡ 1) (x₃ y₃ : ℕ) (e₃ : x₃ ≡ first_part ws (x - 1) kind) (f₃ : y₃ ≡ first_part ws (y - 1) kind) where
-                    lower₃ : x₃ ≤ x - 1
-                    lower₃ = rw (e₃, ek) (first_lower p s.ready.sound (x - 1) rows_there.0)
+    pub ask_seconds : {l : List ℕ} → Owes (tree_at pool) (tree_at pool) l → Asks l u w c
+    ask_seconds {l = l} q = below l u w c q second_low.0 second_low.1 (omega arith)
 
-                    pub ask_firsts : Asks l₂ x₃ y₃ c
-                    ask_firsts =
-                        let f : y₃ ≤ y - 1 = rw (f₃, ← kind_y) (first_lower p s.ready.sound (y - 1) rows_there.1) in
-                        below l₂ x₃ y₃ c w₂.true_still lower₃ f (omega (arith, lower₃, nx))
+    pub seconds : {t t' : Option ℕ} {l : List ℕ} {v : Found} → Walked pool d c u w t t' l v → Says second v
+    seconds k n g = rw (← eu, ← ew) (k.told n (omega (arith, second_low.0, o.rows.x_there)))
 
-                    module _ (l₃ : List ℕ) (v₃ a₃ b₃ : ℕ) (w₃ : Walked p d c x₃ y₃ limited l₃ v₃ a₃ b₃) where
-                      firsts : (n : ℕ) → first_at n p d c (first_part ws (x - 1) kind) (first_part ws (y - 1) kind) ≡ first_at n p d c x₃ y₃
-                      firsts n = ap₂ (first_at n p d c) (sym e₃) (sym f₃)
+  module _ {u w : ℕ} (eu : u ≡ first_part ws a kind) (ew : w ≡ first_part ws b kind) where
+    first_low : (u ≤ a) × (w ≤ b)
+    first_low = (rw (eu, o.x_kind) (first_lower pool sound a there.0), rw (ew, o.y_kind) (first_lower pool sound b there.1))
 
-                      second_equal : (n : ℕ) → x ≤ suc n → first_at n p d c x₂ y₂ ≡ equal
-                      second_equal n g = (w₂.told n (omega (arith, lower₂))).yes o₂
+    pub ask_firsts : {l : List ℕ} → Owes (tree_at pool) (tree_at pool) l → Asks l u w c
+    ask_firsts {l = l} q = below l u w c q first_low.0 first_low.1 (omega arith)
 
-                      first_told : (n : ℕ) → x ≤ n → Tells (first_at n p d c x y) v₃ a₃ b₃
-                      unfolding parts_at ◌and_then◌
-                      first_told zero g = absurd (nx (omega arith))
-                      first_told (suc n) g =
-                          record {
-                            no = λ z. whole n ∙ rw (bodies n, body_equal n g, seconds n, second_equal n g, firsts n, (w₃.told n (omega (arith, lower₃))).no z);
-                            yes = λ z. whole n ∙ rw (bodies n, body_equal n g, seconds n, second_equal n g, firsts n, (w₃.told n (omega (arith, lower₃))).yes z);
-                          }
+    pub firsts : {t t' : Option ℕ} {l : List ℕ} {v : Found} → Walked pool d c u w t t' l v → Says first v
+    firsts k n g = rw (← eu, ← ew) (k.told n (omega (arith, first_low.0, o.rows.x_there)))
 
-                      pub walked_first : (l₄ : List ℕ) → KeepsIf ws l₃ l₄ (eqb v₃ 1) d c (x - 1) (y - 1) → Walks l₄ v₃ a₃ b₃
-                      walked_first l₄ k =
-                          record {
-                            told = first_told;
-                            true_still = k.keeps (tree_at p) w₃.true_still
-                                (λ e.
-                                let h = and_both (eqb v₃ 1) (is_plain ws d c (x - 1)) e in
-                                equal_known bs ns ws t s.ready d c (x - 1) (y - 1) rows_there.0 rows_there.1 h.1 x (omega (arith, nx))
-                                (sym (at_both x p d c x y nx ny) ∙ (first_told x (omega arith)).yes (eqb-true v₃ 1 h.0)));
-                            sure = w₃.sure;
-                          }
+  -- from a walk of parts to one of the rows: what it leaves of the steps and of what was kept
+  module _ {u w e : ℕ} {t t' : Option ℕ} {l : List ℕ} {v : Found} (k : Walked pool d e u w t t' l v) (on : s ≡ None → t ≡ None) where
+    ended : (l' : List ℕ) → Owes (tree_at pool) (tree_at pool) l' → Says (λ n. body n and_then (second n and_then first n)) v → Walked pool d c x y s t' l' v
+    ended l' q z = record { told = told v z; true_still = q; unlimited = λ i. k.unlimited (on i); sure = λ i. k.sure (on i) }
+
+    pub walked_body : Says body v → (v ≡ Equal → ⊥) → Walked pool d c x y s t' l v
+    walked_body z n = ended l k.true_still (λ i g. told_first (body i) (second i and_then first i) v (z i g) n)
+
+    pub walked_second : {v₁ : Found} → Says body v₁ → v₁ ≡ Equal → Says second v → (v ≡ Equal → ⊥) → Walked pool d c x y s t' l v
+    walked_second h p z n =
+        ended l k.true_still
+        (λ i g. told_next (body i) (second i and_then first i) v ((h i g).yes p) (told_first (second i) (first i) v (z i g) n))
+
+    pub walked_first : {v₁ v₂ : Found} → Says body v₁ → v₁ ≡ Equal → Says second v₂ → v₂ ≡ Equal → Says first v → {l' : List ℕ} → KeepsIf ws l l' v d c a b → Walked pool d c x y s t' l' v
+    walked_first h p z q f {l' = l'} m =
+        let says : Says (λ n. body n and_then (second n and_then first n)) v =
+        λ i g. told_next (body i) (second i and_then first i) v ((h i g).yes p) (told_next (second i) (first i) v ((z i g).yes q) (f i g)) in
+        ended l'
+        (m.keeps (tree_at pool) k.true_still
+        (λ e plain.
+        equal_known pool sound d c a b there.0 there.1 plain x (omega (arith, o.rows.x_there))
+        (sym (at_both x pool d c x y o.rows.x_there o.rows.y_there) ∙ (told v says x (omega arith)).yes e)))
+        says

@@ -2,19 +2,18 @@
 // A class goes by its lowest row.
 ghost use Rattle.difference.specs.Walks.{KeepsWhere, Root, Finds, Classed};
 
-use basics::bools::both;
-use basics::numbers::{larger, lesser};
 use links::{owe, row_at};
 
-// The row that the entries lead to from x.
+// The row that the entries lead to from x: each leads to a lower one.
 fn root_of(kept: &[u32], x: usize) -> usize
     ensures { Root kept.now x result }
 {
     let mut r = x;
-    let mut m = row_at(kept, r);
-    while both(0 < m, m <= r) {
-        r = m - 1;
-        m = row_at(kept, r);
+    while let Some(m) = row_at(kept, r) {
+        if r <= m {
+            return r;
+        }
+        r = m;
     }
     r
 }
@@ -23,10 +22,7 @@ fn root_of(kept: &[u32], x: usize) -> usize
 fn keep(kept: &mut [u32], x: usize, m: usize)
     ensures { KeepsWhere kept.old kept.new x m }
 {
-    if kept.len() <= x {
-        return;
-    }
-    if both(m < x, m < 65536) {
+    if x < kept.len() && m < x && m < 65536 {
         owe(kept, x, m);
     }
 }
@@ -54,5 +50,5 @@ pub(crate) fn unite(kept: &mut [u32], x: usize, y: usize)
 {
     let a = find(kept, x);
     let b = find(kept, y);
-    keep(kept, larger(a, b), lesser(a, b));
+    keep(kept, a.max(b), a.min(b));
 }

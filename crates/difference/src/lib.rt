@@ -3,4 +3,4 @@
 
 mod classes;
 pub mod trees;
-mod walk;
+pub mod walk;

@@ -1,185 +1,137 @@
 // The walk from the back: two rows, then their bodies, their second parts and their first ones. What it finds equal is kept,
 // so that no two rows are walked through twice; only where the first one is lifted nothing is kept.
-ghost use Rattle.std.specs.Prelude.{◌≡◌, ◌<◌};
-ghost use Rattle.pool.specs.Areas.{WordsOf, lent};
-ghost use Rattle.difference.specs.Walks.{is_plain, KeepsIf, AtOnce, TwoRows, TwoParts, Walked};
+ghost use Rattle.std.specs.Prelude.{◌≡◌, true, None};
+ghost use Rattle.pool.specs.Views.{lent};
+ghost use Rattle.difference.specs.Walks.{is_plain, KeepsIf, AtOnce, TwoRows, TwoParts, pair_unless, Walked};
 
 use super::classes::{same_class, unite};
-use basics::bools::{both, either};
-use basics::numbers::less;
 use compare::trees::same_fields;
 use occurrence::parts;
-use pool::fields;
-use pool::tables::Tables;
+use pool::checked::CheckedPool;
+use pool::fields::{EXPR_KIND, EXPR_LOOSE};
+use pool::words::Words;
 
-// What a walk has found: 0, the pair of rows a and b; 1, that all is equal; 2, nothing, since no step was left.
-#[derive(Clone, Copy)]
-pub struct Found {
-    pub answer: usize,
-    pub a: usize,
-    pub b: usize,
-    pub left: usize,
+// What a comparison has found: the first pair of rows that differ; that all is equal; or no pair, where no step was left or none was looked
+// for.
+#[derive(Clone, Copy, Debug, PartialEq, Eq)]
+pub enum Found {
+    Differ { first: usize, second: usize },
+    Equal,
+    Unknown,
 }
 
 // Whether lifting by d from c on leaves the tree of row a as it is.
-fn is_plain(words: &[u32], t: Tables, d: usize, a: usize, c: usize) -> bool
-    requires { WordsOf words.now t }
-    ensures { result ≡ is_plain words.now d c a }
+fn is_plain(words: &Words<'_>, d: usize, a: usize, c: usize) -> bool
+    ensures { result ≡ is_plain words.now.words.now d c a }
 {
-    either(d == 0, fields::expr_loose(words, t, a) <= c)
+    d == 0 || words.expr(a, EXPR_LOOSE) <= c
 }
 
-// Two rows by themselves: 0 where their kinds or fields differ, 1 where their trees are known to be equal, 2 where their parts say.
+// Whether two rows are equal, as far as they say it by themselves: by their kinds and fields, and by what is known. None where their parts say.
 fn at_once(
-    bytes: &[u8],
-    names: &[u32],
-    words: &[u32],
-    t: Tables,
+    pool: &CheckedPool<'_>,
     known: bool,
     d: usize,
     a: usize,
     b: usize,
     c: usize,
-) -> usize
-    requires { TwoRows bytes.now names.now words.now t known a b }
-    ensures { AtOnce (lent bytes names words) d c a b result }
+) -> Option<bool>
+    requires { TwoRows (lent pool.now) known a b }
+    ensures { AtOnce (lent pool.now) d c a b result }
 {
-    if both(known, is_plain(words, t, d, a, c)) {
-        return 1;
+    if known && is_plain(&pool.words, d, a, c) {
+        return Some(true);
     }
-    let kind = fields::expr_kind(words, t, a);
-    if kind != fields::expr_kind(words, t, b) {
-        return 0;
+    let kind = pool.words.expr(a, EXPR_KIND);
+    if kind != pool.words.expr(b, EXPR_KIND) {
+        return Some(false);
     }
-    if !same_fields(bytes, names, words, t, d, a, b, c, kind) {
-        return 0;
+    if !same_fields(pool, d, a, b, c, kind) {
+        return Some(false);
     }
-    2
+    None
 }
 
 // What was found equal is kept.
 fn keep_equal(
-    words: &[u32],
-    t: Tables,
+    words: &Words<'_>,
     kept: &mut [u32],
-    equal: bool,
+    found: Found,
     d: usize,
     a: usize,
     b: usize,
     c: usize,
 )
-    requires { WordsOf words.now t }
-    ensures { KeepsIf words.now kept.old kept.new equal d c a b }
+    ensures { KeepsIf words.now.words.now kept.old kept.new found d c a b }
 {
-    if both(equal, is_plain(words, t, d, a, c)) {
+    if found == Found::Equal && is_plain(words, d, a, c) {
         unite(kept, a, b);
     }
 }
 
-fn one_if_none(y: usize) -> usize
-    ensures { (result ≡ 1 → y ≡ 0) × (result ≡ 0 → y ≡ 0 → ⊥) × (result < 2) }
+// One step less, where there is a limit; false where none is left.
+fn spend(steps: &mut Option<usize>) -> bool
+    ensures { steps.old ≡ None → (result ≡ true) × (steps.new ≡ None) }
 {
-    if y == 0 {
-        return 1;
-    }
-    0
+    let Some(left) = *steps else {
+        return true;
+    };
+    *steps = Some(left.saturating_sub(1));
+    0 < left
 }
 
-// Two parts, the first one lifted by d from c on; in a number of steps, where there is a limit.
-pub fn walk(
-    bytes: &[u8],
-    names: &[u32],
-    words: &[u32],
-    t: Tables,
+// The pair of rows, unless they are equal.
+fn pair_unless(equal: bool, first: usize, second: usize) -> Found
+    ensures { result ≡ pair_unless equal first second }
+{
+    if equal {
+        return Found::Equal;
+    }
+    Found::Differ { first, second }
+}
+
+// Two parts, the first one lifted by d from c on; in a number of steps, where there is a limit. What travels along is lent one by one: of a
+// struct that held the slice and the steps each call would have to say that it still holds these.
+pub(crate) fn walk(
+    pool: &CheckedPool<'_>,
     kept: &mut [u32],
+    steps: &mut Option<usize>,
     d: usize,
     x: usize,
     y: usize,
     c: usize,
-    limited: bool,
-    steps: usize,
 ) -> Found
-    requires { TwoParts bytes.now names.now words.now t kept.old x y c }
-    ensures { Walked (lent bytes names words) d c x y limited kept.new result.answer result.a result.b }
+    requires { TwoParts (lent pool.now) kept.old x y c }
+    ensures { Walked (lent pool.now) d c x y steps.old steps.new kept.new result }
 {
-    if x == 0 {
-        let answer = one_if_none(y);
-        return Found {
-            answer,
-            a: 0,
-            b: 0,
-            left: steps,
-        };
+    if x == 0 || y == 0 {
+        return pair_unless(x == y, 0, 0);
     }
-    if y == 0 {
-        return Found {
-            answer: 0,
-            a: 0,
-            b: 0,
-            left: steps,
-        };
+    if !spend(steps) {
+        return Found::Unknown;
     }
-    if both(limited, steps == 0) {
-        return Found {
-            answer: 2,
-            a: 0,
-            b: 0,
-            left: 0,
-        };
+    let (a, b) = (x - 1, y - 1);
+    let known = same_class(kept, a, b);
+    if let Some(same) = at_once(pool, known, d, a, b, c) {
+        return pair_unless(same, a, b);
     }
-    let left = less(steps, 1);
-    let known = same_class(kept, x - 1, y - 1);
-    let quick = at_once(bytes, names, words, t, known, d, x - 1, y - 1, c);
-    if quick < 2 {
-        return Found {
-            answer: quick,
-            a: x - 1,
-            b: y - 1,
-            left,
-        };
-    }
-    let kind = fields::expr_kind(words, t, x - 1);
-    let body_x = parts::body_part(words, t, x - 1, kind);
-    let body_y = parts::body_part(words, t, y - 1, kind);
-    let body = walk(
-        bytes,
-        names,
-        words,
-        t,
-        kept,
-        d,
-        body_x,
-        body_y,
-        c + 1,
-        limited,
-        left,
-    );
-    if body.answer != 1 {
+    let words = &pool.words;
+    let kind = words.expr(a, EXPR_KIND);
+    let body_a = parts::body_part(words, a, kind);
+    let body_b = parts::body_part(words, b, kind);
+    let body = walk(pool, kept, steps, d, body_a, body_b, c + 1);
+    if body != Found::Equal {
         return body;
     }
-    let second_x = parts::second_part(words, t, x - 1, kind);
-    let second_y = parts::second_part(words, t, y - 1, kind);
-    let second = walk(
-        bytes, names, words, t, kept, d, second_x, second_y, c, limited, body.left,
-    );
-    if second.answer != 1 {
+    let second_a = parts::second_part(words, a, kind);
+    let second_b = parts::second_part(words, b, kind);
+    let second = walk(pool, kept, steps, d, second_a, second_b, c);
+    if second != Found::Equal {
         return second;
     }
-    let first_x = parts::first_part(words, t, x - 1, kind);
-    let first_y = parts::first_part(words, t, y - 1, kind);
-    let first = walk(
-        bytes,
-        names,
-        words,
-        t,
-        kept,
-        d,
-        first_x,
-        first_y,
-        c,
-        limited,
-        second.left,
-    );
-    keep_equal(words, t, kept, first.answer == 1, d, x - 1, y - 1, c);
+    let first_a = parts::first_part(words, a, kind);
+    let first_b = parts::first_part(words, b, kind);
+    let first = walk(pool, kept, steps, d, first_a, first_b, c);
+    keep_equal(words, kept, first, d, a, b, c);
     first
 }

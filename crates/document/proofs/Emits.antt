@@ -15,7 +15,7 @@ use Rattle.document.specs.Sink.{State, row_words, put_row, put_bytes, end_text, 
 use Rattle.document.specs.Sink.State.{state}
 use Rattle.document.proofs.ReadBack.{stored-length, some_row, own, own_words, Words}
 use Rattle.document.proofs.Sizes.{words_fit}
-use Rattle.document.proofs.Steps.{Stopped, Stays, stays_emit, stays_join, stays_wrapped, stays_after, steps-append, sink_at, At, areas, Grown, Agree, agree_words}
+use Rattle.document.proofs.Steps.{Stopped, Stays, stays_emit, stays_join, stays_wrapped, stays_after, steps-append, written_at, At, areas, Grown, Agree, agree_words}
 use Rattle.document.proofs.Steps.{then, row_agrees, names_agree, text_words, text_agrees}
 
 -- ---- the measures of what is written
@@ -226,7 +226,7 @@ pub record Emitted (R T : ℕ) (d : Doc) (r t : ℕ) (st : State) : Type 0 where
   pub small : length (text_bytes d) ≤ 65536
   pub rows_fit : row_count d * 7 ≤ R
   pub text_fits : length (text_bytes d) ≤ T
-  pub is : st ≡ state (stored 0 d ++ replicate (R - row_count d * 7) 0) (text_bytes d ++ replicate (T - length (text_bytes d)) 0) (sink_at (row_count d) (length (text_bytes d)))
+  pub is : st ≡ state (stored 0 d ++ replicate (R - row_count d * 7) 0) (text_bytes d ++ replicate (T - length (text_bytes d)) 0) (written_at (row_count d) (length (text_bytes d)))
 
 cleared_agrees : (R T : ℕ) (m : Marked) → Fine (unmarked m) → Agree R T [] (replicate {A = ℕ} R 0) [] (replicate {A = ℕ} T 0) (stored 0 (unmarked m))
     (text_bytes (unmarked m)) (walk R T m) (emit m (cleared R T))
@@ -259,10 +259,10 @@ emit_of_going_walk R T m fine r t e =
       text_fits = omega arith;
       is =
           g.is
-          ∙ ap₂ (λ (x : ℕ) (y : ℕ). state (stored 0 d ++ drop x (replicate {A = ℕ} R 0)) (text_bytes d ++ drop (length (text_bytes d)) (replicate {A = ℕ} T 0)) (sink_at y t)) ls rr
+          ∙ ap₂ (λ (x : ℕ) (y : ℕ). state (stored 0 d ++ drop x (replicate {A = ℕ} R 0)) (text_bytes d ++ drop (length (text_bytes d)) (replicate {A = ℕ} T 0)) (written_at y t)) ls rr
           ∙ ap (λ (x : ℕ). state (stored 0 d ++ drop (row_count d * 7) (replicate {A = ℕ} R 0))
-          (text_bytes d ++ drop (length (text_bytes d)) (replicate {A = ℕ} T 0)) (sink_at (row_count d) x)) (sym ta)
-          ∙ ap₂ (λ (x y : List ℕ). state (stored 0 d ++ x) (text_bytes d ++ y) (sink_at (row_count d) (length (text_bytes d))))
+          (text_bytes d ++ drop (length (text_bytes d)) (replicate {A = ℕ} T 0)) (written_at (row_count d) x)) (sym ta)
+          ∙ ap₂ (λ (x y : List ℕ). state (stored 0 d ++ x) (text_bytes d ++ y) (written_at (row_count d) (length (text_bytes d))))
           (drop_zeros R (row_count d * 7)) (drop_zeros T (length (text_bytes d)));
     }
 

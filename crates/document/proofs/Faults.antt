@@ -5,20 +5,16 @@ use native.Mathlib.Nat.{eq-or-lt_of_le}
 use native.Mathlib.Numerals.{add-one}
 use mathlib.Core.Bool.{Bool, true, false, ◌&&◌, cond}
 use mathlib.Core.List.{List}
+use Rattle.std.proofs.Common.{Some, None}
 use mathlib.Core.Logic.{⊎_elim}
 use mathlib.Core.Path.{◌≡◌, refl, sym, ap, ap₂, ◌∙◌}
 use lib.ListN.{length}
 use lib.Dec.{leb, ltb, eqb}
 use borrow.Author.Tests.{lt-ltb, le-ltb, ltb-true, ltb-false, leb-true, eqb-true}
-use Rattle.document.specs.Rows.{word, own_text, text_before, fields_ok, rule_ok, row_ok, scan, whole, fault, Valid, counts_ok, Accepted}
+use Rattle.document.specs.Rows.{word, own_text, text_before, rule_ok, row_ok, scan, whole, fault, found, Valid, counts_ok, Accepted}
 use Rattle.basics.proofs.Booleans.{and_left, and_right}
-use Rattle.document.proofs.Words.{kind_rest}
 
--- ---- the loop of `find_fault`
-
-pub no_own_text : (rows : List ℕ) (r k : ℕ) → (k ≡ 0 → ⊥) → 0 ≡ own_text rows r k
-no_own_text rows r zero f = absurd (f refl)
-no_own_text rows r (suc k) f = refl
+-- ---- the loop of `fault`
 
 pub text_none : (rows : List ℕ) → 0 ≡ text_before rows 0
 unfolding text_before
@@ -52,7 +48,7 @@ module _ (rows : List ℕ) (total count i : ℕ) (h : i < count) where
       let s : scan rows total count 0 ≡ i = sym e ∙ scan_here ∙ ap (λ (b : Bool). cond b (scan rows total (count - (i + 1)) (i + 1)) i) ok in
       sym (rw (s, lt-ltb i count h))
 
-pub fault_end : (rows : List ℕ) (total count i before last : ℕ) (b : Bool) → i ≤ count → count ≤ i → scan rows total (count - i) i ≡ scan rows total count 0
+fault_end : (rows : List ℕ) (total count i before last : ℕ) (b : Bool) → i ≤ count → count ≤ i → scan rows total (count - i) i ≡ scan rows total count 0
     → before ≡ text_before rows i → last ≡ word rows (count - 1) 3 → b ≡ eqb last count && eqb before total → cond b count (count - 1) ≡ fault rows total count
 unfolding fault scan whole
 fault_end rows total count i before last b p q e t l z =
@@ -62,6 +58,23 @@ fault_end rows total count i before last b p q e t l z =
     let t' : before ≡ text_before rows count = t ∙ ap (text_before rows) c in
     let m : count ≤ count = omega arith in
     sym (rw (s, le-ltb count count m, ← l, ← t', ← z))
+
+-- the same as what is found
+pub found_here : (i n bound : ℕ) → i ≡ n → i < bound → Some i ≡ found n bound
+found_here i n bound e h = ap (λ (b : Bool). cond b (Some i) None) (sym (lt-ltb i bound h)) ∙ ap (λ (k : ℕ). found k bound) e
+
+found_end : (b : Bool) (n count : ℕ) → 0 < count → cond b count (count - 1) ≡ n → cond b None (Some (count - 1)) ≡ found n count
+found_end true n count h e = let m : count ≤ count = omega arith in sym (rw (← e, le-ltb count count m))
+found_end false n count h e = found_here (count - 1) n count e (omega arith)
+
+-- what is answered after the last row: `was` is the test of the whole document
+pub found_last : (rows : List ℕ) (total count i before last : ℕ) (test was : Bool) → was ≡ test → i ≤ count → count ≤ i
+    → scan rows total (count - i) i ≡ scan rows total count 0 → before ≡ text_before rows i → 0 < count → last ≡ count - 1
+    → was ≡ eqb (word rows last 3) count && eqb before total → cond test None (Some last) ≡ found (fault rows total count) count
+found_last rows total count i before last test was same p q e t some l z =
+    let w : word rows last 3 ≡ word rows (count - 1) 3 = ap (λ (r : ℕ). word rows r 3) l in
+    let f = fault_end rows total count i before (word rows last 3) test p q e t w (sym same ∙ z) in
+    ap (λ (r : ℕ). cond test None (Some r)) l ∙ found_end test (fault rows total count) count some f
 
 -- ---- rows that are not at fault
 
@@ -130,33 +143,6 @@ accepted_sound {rows} {count} {texts} {total} a =
     let f = a.faultless in
     sound rows total count p (omega arith)
 
--- ---- the fields, kind by kind, as the code tests them
-
-module _ (rows : List ℕ) (total before r kind a b : ℕ) (ek : kind ≡ word rows r 0) (ea : a ≡ word rows r 1) (eb : b ≡ word rows r 2) (v x : Bool) where
-  of_kind : (k : ℕ) → kind ≡ k → v ≡ fields_ok rows total before r k → v ≡ fields_ok rows total before r (word rows r 0)
-  of_kind k e h = h ∙ ap (fields_ok rows total before r) (sym e ∙ ek)
-
-  pub text_fields : kind ≡ 0 → v ≡ eqb a before && leb (before + b) total → v ≡ fields_ok rows total before r (word rows r 0)
-  text_fields e h = of_kind 0 e (cc)
-
-  pub join_fields : (right size : ℕ) → kind ≡ 1 → right ≡ r - 1 → size ≡ word rows right 3 → x ≡ eqb a 0 && eqb b 0 → v ≡ ltb size r && x
-      → v ≡ fields_ok rows total before r (word rows r 0)
-  join_fields right size e p q g h = of_kind 1 e (cc)
-
-  pub break_fields : kind ≡ 2 → v ≡ ltb a 2 && eqb b 0 → v ≡ fields_ok rows total before r (word rows r 0)
-  break_fields e h = of_kind 2 e (cc)
-
-  pub nest_fields : kind ≡ 3 → x ≡ ltb a 65 && eqb b 0 → v ≡ ltb 0 r && x → v ≡ fields_ok rows total before r (word rows r 0)
-  nest_fields e g h = of_kind 3 e (cc)
-
-  pub group_fields : (y : Bool) → (kind ≡ 0 → ⊥) → (kind ≡ 1 → ⊥) → (kind ≡ 2 → ⊥) → (kind ≡ 3 → ⊥) → y ≡ eqb a 0 && eqb b 0 → x ≡ eqb kind 4 && y
-      → v ≡ ltb 0 r && x
-      → v ≡ fields_ok rows total before r (word rows r 0)
-  group_fields y n0 n1 n2 n3 f g h =
-      let k = kind_rest kind n0 n1 n2 n3 in
-      let four : eqb kind 4 ≡ eqb (suc (suc (suc (suc k.0)))) 4 = ap (λ (n : ℕ). eqb n 4) k.1 in
-      of_kind (suc (suc (suc (suc k.0)))) k.1 (cc)
-
 -- ---- a fault is no later than the end
 
 pub fault_bound : (rows : List ℕ) (total count : ℕ) → fault rows total count ≤ count
@@ -167,3 +153,19 @@ fault_bound rows total count = go (ltb (scan rows total count 0) count) (whole r
     go true y f = let h = f refl in omega arith
     go false true f = omega arith
     go false false f = omega arith
+
+-- ---- what is found, as a caller reads it
+
+pub found_some : (i n bound : ℕ) → Some i ≡ found n bound → (i ≡ n) × (i < bound)
+found_some i n bound e = by (ltb n bound) (ltb-true n bound) e
+  where
+    by : (b : Bool) → (b ≡ true → n < bound) → Some i ≡ cond b (Some n) None → (i ≡ n) × (i < bound)
+    by true f q = let s : i ≡ n = cc in let h = f refl in (s, omega arith)
+    by false f q = cc
+
+pub fault_none : (rows : List ℕ) (total count : ℕ) → None ≡ found (fault rows total count) count → fault rows total count ≡ count
+fault_none rows total count e = by (ltb (fault rows total count) count) (ltb-false _ _) e
+  where
+    by : (b : Bool) → (b ≡ false → count ≤ fault rows total count) → None ≡ cond b (Some (fault rows total count)) None → fault rows total count ≡ count
+    by true f q = cc
+    by false f q = let m = fault_bound rows total count in let h = f refl in omega arith

@@ -1,6 +1,7 @@
 pub mod Words
 pub mod Faults
 pub mod Areas
+pub mod Leaving
 pub mod Holds
 pub mod ReadBack
 pub mod StoredAgain

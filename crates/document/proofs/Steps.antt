@@ -6,51 +6,58 @@ use mathlib.Core.List.{List, [], ◌∷◌, ◌++◌, append_assoc, append-nil}
 use mathlib.Core.Path.{◌≡◌, refl, sym, ap, ap₂, ◌∙◌, subst}
 use lib.ListN.{length, drop, set, length-append, length-drop}
 use lib.Seq.{take_at, drop-append-add, drop-drop, sets-eq}
-use lib.Dec.{ltb, leb, eqb}
+use lib.Dec.{ltb, leb}
+use Rattle.std.specs.Prelude.{None, Some}
+use Rattle.std.specs.Option.{is_none}
 use borrow.Author.Tests.{ltb-true, leb-true}
 use Rattle.document.specs.declared.measures.Measures.{Measures}
-use Rattle.document.specs.declared.sink.Sink.{Sink}
+use Rattle.document.specs.declared.written.Written.{Written}
+use Rattle.document.specs.declared.written.Stop.{Stop}
+use Rattle.document.specs.declared.written.Stop.TheVariants.{Names, Document, RowArea, TextArea}
 use Rattle.document.specs.Walk.{Event, byte, row, named, Progress, going, stopped, step, steps, text_events, Marked, textᵐ, joinᵐ, breakᵐ, nestᵐ, groupᵐ}
 use Rattle.document.specs.Walk.{names}
-use Rattle.document.specs.Sink.{State, sink_of, stopped_at, refuse, row_words, over, put_row, put_byte, put_bytes, end_text, put_text, put_break, put_join, put_wrapped}
+use Rattle.document.specs.Stops.{number_of, place_of}
+use Rattle.document.specs.Sink.{State, written_of, stopped_at, refuse, row_words, over, put_row, put_byte, put_bytes, end_text, put_text, put_break, put_join, put_wrapped}
 use Rattle.document.specs.Sink.{put_nest, put_group, put_names, emit}
 use Rattle.document.specs.Sink.State.{state}
 
 -- ---- a stopped sink stays as it is
 
+-- it has stopped under a number at a place
 pub record Stopped (number place : ℕ) (st : State) : Type 0 where
-  pub some : eqb number 0 ≡ false
-  pub stop : (sink_of st).stop ≡ number
-  pub at : (sink_of st).place ≡ place
+  pub by : Stop
+  pub stop : (written_of st).stop ≡ Some by
+  pub under : number_of by ≡ number
+  pub at : place_of by ≡ place
 
-pub row_stays : (kind a b : ℕ) (m : Measures) (st : State) → eqb (sink_of st).stop 0 ≡ false → put_row kind a b m st ≡ st
+pub row_stays : (kind a b : ℕ) (m : Measures) (st : State) → is_none (written_of st).stop ≡ false → put_row kind a b m st ≡ st
 unfolding put_row
 row_stays kind a b m (state rows text s) e = rw e
 
-pub byte_stays : (b : ℕ) (st : State) → eqb (sink_of st).stop 0 ≡ false → put_byte b st ≡ st
+pub byte_stays : (b : ℕ) (st : State) → is_none (written_of st).stop ≡ false → put_byte b st ≡ st
 unfolding put_byte
 byte_stays b (state rows text s) e = rw e
 
-pub bytes_stay : (bs : List ℕ) (st : State) → eqb (sink_of st).stop 0 ≡ false → put_bytes bs st ≡ st
+pub bytes_stay : (bs : List ℕ) (st : State) → is_none (written_of st).stop ≡ false → put_bytes bs st ≡ st
 unfolding put_bytes
 bytes_stay [] st e = refl
 bytes_stay (b ∷ bs) st e = ap (put_bytes bs) (byte_stays b st e) ∙ bytes_stay bs st e
 
-pub end_stays : (from : ℕ) (st : State) → eqb (sink_of st).stop 0 ≡ false → end_text from st ≡ st
+pub end_stays : (from : ℕ) (st : State) → is_none (written_of st).stop ≡ false → end_text from st ≡ st
 unfolding end_text
 end_stays from st e = row_stays _ _ _ _ st e
 
-pub names_stay : (place count : ℕ) (st : State) → eqb (sink_of st).stop 0 ≡ false → put_names place count st ≡ st
+pub names_stay : (place count : ℕ) (st : State) → is_none (written_of st).stop ≡ false → put_names place count st ≡ st
 unfolding put_names refuse
 names_stay place count (state rows text s) e = go (leb count 1024)
   where
-    go : (b : Bool) → cond b (state rows text s) (cond (eqb s.stop 0) (state rows text (stopped_at 7 place s)) (state rows text s)) ≡ state rows text s
+    go : (b : Bool) → cond b (state rows text s) (cond (is_none s.stop) (state rows text (stopped_at (Names place) s)) (state rows text s)) ≡ state rows text s
     go true = refl
     go false = rw e
 
-pub emit_stays : (m : Marked) (st : State) → eqb (sink_of st).stop 0 ≡ false → emit m st ≡ st
+pub emit_stays : (m : Marked) (st : State) → is_none (written_of st).stop ≡ false → emit m st ≡ st
 unfolding emit put_text put_break put_join put_wrapped
-emit_stays (textᵐ s) st e = ap (end_text (sink_of st).text) (bytes_stay s st e) ∙ end_stays (sink_of st).text st e
+emit_stays (textᵐ s) st e = ap (end_text (written_of st).text) (bytes_stay s st e) ∙ end_stays (written_of st).text st e
 emit_stays (joinᵐ a b) st e = ap (λ (x : State). put_join (emit b x)) (emit_stays a st e) ∙ ap put_join (emit_stays b st e) ∙ row_stays _ _ _ _ st e
 emit_stays (breakᵐ k) st e = row_stays _ _ _ _ st e
 emit_stays (nestᵐ n d) st e = ap (put_nest n) (emit_stays d st e) ∙ row_stays _ _ _ _ st e
@@ -59,7 +66,7 @@ emit_stays (names place count d) st e = ap (emit d) (names_stay place count st e
 
 -- such a function
 abbrev pub Stays : (State → State) → Type 0
-Stays f = (st : State) → eqb (sink_of st).stop 0 ≡ false → f st ≡ st
+Stays f = (st : State) → is_none (written_of st).stop ≡ false → f st ≡ st
 
 pub stays_join : Stays put_join
 unfolding put_join
@@ -90,8 +97,8 @@ steps_stopped R T n p (e ∷ es) = steps_stopped R T n p es
 
 -- ---- agreement
 
-abbrev pub sink_at : ℕ → ℕ → Sink
-sink_at r t = record { rows = r; text = t; stop = 0; place = 0 }
+abbrev pub written_at : ℕ → ℕ → Written
+written_at r t = record { rows = r; text = t; stop = None }
 
 -- r rows are written, the words pre, and t text bytes, tpre; in areas of R words and T bytes
 pub record At (R T : ℕ) (pre rest tpre trest : List ℕ) (r t : ℕ) : Type 0 where
@@ -103,7 +110,7 @@ pub record At (R T : ℕ) (pre rest tpre trest : List ℕ) (r t : ℕ) : Type 0 
   pub small : t ≤ 65536
 
 abbrev pub areas : List ℕ → List ℕ → List ℕ → List ℕ → ℕ → ℕ → State
-areas pre rest tpre trest r t = state (pre ++ rest) (tpre ++ trest) (sink_at r t)
+areas pre rest tpre trest r t = state (pre ++ rest) (tpre ++ trest) (written_at r t)
 
 -- the words ws and the bytes bs more
 pub record Grown (R T : ℕ) (pre rest tpre trest ws bs : List ℕ) (r t : ℕ) (st : State) : Type 0 where
@@ -146,7 +153,7 @@ then R T pre rest tpre trest ws bs vs cs (going r t) es f st s k g =
     (regroup R T pre rest tpre trest ws bs vs cs (steps R T (going r t) es) _ (k r t g.at))
 then R T pre rest tpre trest ws bs vs cs (stopped n p) es f st s k g =
     subst (λ (q : Progress). Agree R T pre rest tpre trest (ws ++ vs) (bs ++ cs) q (f st)) (sym (steps_stopped R T n p es))
-    (subst (λ (x : State). Stopped n p x) (sym (s st (ap (λ (k : ℕ). eqb k 0) g.stop ∙ g.some))) g)
+    (subst (λ (x : State). Stopped n p x) (sym (s st (ap is_none g.stop))) g)
 
 -- ---- one event
 
@@ -186,9 +193,9 @@ module _ (R T : ℕ) (pre rest tpre trest : List ℕ) (r t : ℕ) (at : At R T p
           (cond x (cond y (going (r + 1) t) (stopped 20 r)) (stopped 8 r))
           (cond x
           (cond y
-          (state (over (r * 7) (row_words kind a b m) (pre ++ rest)) (tpre ++ trest) (sink_at (r + 1) t))
-          (state (pre ++ rest) (tpre ++ trest) (stopped_at 20 r (sink_at r t))))
-          (state (pre ++ rest) (tpre ++ trest) (stopped_at 8 r (sink_at r t))))
+          (state (over (r * 7) (row_words kind a b m) (pre ++ rest)) (tpre ++ trest) (written_at (r + 1) t))
+          (state (pre ++ rest) (tpre ++ trest) (stopped_at (RowArea r) (written_at r t))))
+          (state (pre ++ rest) (tpre ++ trest) (stopped_at (Document r) (written_at r t))))
       go true true f g =
           let few = f refl in
           let fits = g refl in
@@ -197,10 +204,10 @@ module _ (R T : ℕ) (pre rest tpre trest : List ℕ) (r t : ℕ) (at : At R T p
           record {
             at = at_more at (row_words kind a b m) [] (r + 1) t (omega arith) (omega arith) (omega arith) (omega arith) (omega arith) at.small;
             is =
-                ap₂ (λ (x y : List ℕ). state x (y ++ trest) (sink_at (r + 1) t)) (over_at pre rest (row_words kind a b m) (r * 7) ra) (sym (append-nil tpre));
+                ap₂ (λ (x y : List ℕ). state x (y ++ trest) (written_at (r + 1) t)) (over_at pre rest (row_words kind a b m) (r * 7) ra) (sym (append-nil tpre));
           }
-      go true false f g = record { some = refl; stop = refl; at = refl }
-      go false y f g = record { some = refl; stop = refl; at = refl }
+      go true false f g = record { by = RowArea r; stop = refl; under = refl; at = refl }
+      go false y f g = record { by = Document r; stop = refl; under = refl; at = refl }
 
   -- a text byte
   pub byte_agrees : (b : ℕ) → Agree R T pre rest tpre trest [] (b ∷ []) (step R T (going r t) byte) (put_byte b (areas pre rest tpre trest r t))
@@ -219,9 +226,9 @@ module _ (R T : ℕ) (pre rest tpre trest : List ℕ) (r t : ℕ) (at : At R T p
           (cond x (cond y (going r (t + 1)) (stopped 21 r)) (stopped 8 r))
           (cond x
           (cond y
-          (state (pre ++ rest) (set (tpre ++ trest) t b) (sink_at r (t + 1)))
-          (state (pre ++ rest) (tpre ++ trest) (stopped_at 21 r (sink_at r t))))
-          (state (pre ++ rest) (tpre ++ trest) (stopped_at 8 r (sink_at r t))))
+          (state (pre ++ rest) (set (tpre ++ trest) t b) (written_at r (t + 1)))
+          (state (pre ++ rest) (tpre ++ trest) (stopped_at (TextArea r) (written_at r t))))
+          (state (pre ++ rest) (tpre ++ trest) (stopped_at (Document r) (written_at r t))))
       go true true f g =
           let small = f refl in
           let fits = g refl in
@@ -230,11 +237,11 @@ module _ (R T : ℕ) (pre rest tpre trest : List ℕ) (r t : ℕ) (at : At R T p
           record {
             at = at_more at [] (b ∷ []) r (t + 1) (omega arith) (omega arith) (omega arith) (omega arith) at.few (omega arith);
             is =
-                ap₂ (λ (x y : List ℕ). state (x ++ rest) y (sink_at r (t + 1))) (sym (append-nil pre))
+                ap₂ (λ (x y : List ℕ). state (x ++ rest) y (written_at r (t + 1))) (sym (append-nil pre))
                 (sets-eq (b ∷ []) (tpre ++ trest) t (omega arith) ∙ over_at tpre trest (b ∷ []) t a);
           }
-      go true false f g = record { some = refl; stop = refl; at = refl }
-      go false y f g = record { some = refl; stop = refl; at = refl }
+      go true false f g = record { by = TextArea r; stop = refl; under = refl; at = refl }
+      go false y f g = record { by = Document r; stop = refl; under = refl; at = refl }
 
   -- names that come into force
   pub names_agree : (place count : ℕ) → Agree R T pre rest tpre trest [] [] (step R T (going r t) (named place count)) (put_names place count (areas pre rest tpre trest r t))
@@ -242,13 +249,13 @@ module _ (R T : ℕ) (pre rest tpre trest : List ℕ) (r t : ℕ) (at : At R T p
   names_agree place count = go (leb count 1024)
     where
       go : (x : Bool) → Agree R T pre rest tpre trest [] [] (cond x (going r t) (stopped 7 place))
-          (cond x (areas pre rest tpre trest r t) (state (pre ++ rest) (tpre ++ trest) (stopped_at 7 place (sink_at r t))))
+          (cond x (areas pre rest tpre trest r t) (state (pre ++ rest) (tpre ++ trest) (stopped_at (Names place) (written_at r t))))
       go true =
           record {
             at = at_more at [] [] r t (omega arith) (omega arith) (omega arith) (omega arith) at.few at.small;
-            is = ap₂ (λ (x y : List ℕ). state (x ++ rest) (y ++ trest) (sink_at r t)) (sym (append-nil pre)) (sym (append-nil tpre));
+            is = ap₂ (λ (x y : List ℕ). state (x ++ rest) (y ++ trest) (written_at r t)) (sym (append-nil pre)) (sym (append-nil tpre));
           }
-      go false = record { some = refl; stop = refl; at = refl }
+      go false = record { by = Names place; stop = refl; under = refl; at = refl }
 
 -- ---- a text
 

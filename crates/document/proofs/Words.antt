@@ -3,7 +3,6 @@ use Prim.Native.Nat.{ℕ, zero, suc, ◌+◌, ◌-◌, ◌≤◌, ◌<◌}
 use native.Mathlib.Omega.{arith}
 use mathlib.Core.Bool.{true}
 use mathlib.Core.List.{List}
-use mathlib.Core.Logic.{◌⊎◌, ⊎_elim}
 use mathlib.Core.Path.{◌≡◌, refl, sym, ap, ap₂, ◌∙◌, subst}
 use lib.ListN.{length, take, drop, length-drop}
 use lib.Seq.{length-take-le}
@@ -16,30 +15,9 @@ use Rattle.basics.proofs.Booleans.{and_left, and_right, and_intro}
 
 -- ---- numbers
 
-pub through_none : (has first after : ℕ) → has ≡ 0 → first + after ≡ through has first after
-through_none has first after e = sym (ap (λ (h : ℕ). through h first after) e)
-
-pub through_some : (has first after : ℕ) → (has ≡ 0 → ⊥) → first ≡ through has first after
-through_some zero first after f = absurd (f refl)
-through_some (suc h) first after f = refl
-
-pub either_some : (a b : ℕ) → (a ≡ 0 → ⊥) → 1 ≡ either a b
-either_some zero b f = absurd (f refl)
-either_some (suc a) b f = refl
-
--- a kind that is none of the first four, or of the first three
-pub kind_rest : (k : ℕ) → (k ≡ 0 → ⊥) → (k ≡ 1 → ⊥) → (k ≡ 2 → ⊥) → (k ≡ 3 → ⊥) → (j : ℕ) × (k ≡ suc (suc (suc (suc j))))
-kind_rest zero a b c d = absurd (a refl)
-kind_rest (suc zero) a b c d = absurd (b refl)
-kind_rest (suc (suc zero)) a b c d = absurd (c refl)
-kind_rest (suc (suc (suc zero))) a b c d = absurd (d refl)
-kind_rest (suc (suc (suc (suc j)))) a b c d = (j, refl)
-
-pub kind_wrapped : (k : ℕ) → (k ≡ 0 → ⊥) → (k ≡ 1 → ⊥) → (k ≡ 2 → ⊥) → (j : ℕ) × (k ≡ suc (suc (suc j)))
-kind_wrapped zero a b c = absurd (a refl)
-kind_wrapped (suc zero) a b c = absurd (b refl)
-kind_wrapped (suc (suc zero)) a b c = absurd (c refl)
-kind_wrapped (suc (suc (suc j))) a b c = (j, refl)
+-- a kind that is none of the first four
+pub kind_rest : (k : ℕ) → 4 ≤ k → (j : ℕ) × (k ≡ suc (suc (suc (suc j))))
+kind_rest k h = (k - 4, omega arith)
 
 -- ---- what a row that keeps the rules has
 
@@ -102,9 +80,6 @@ module _ (rows : List ℕ) (total count : ℕ) (valid : Valid rows total count) 
   has_child (suc k) e = ltb-true _ _ (and_left (ltb 0 r) _ (kept (suc (suc (suc (suc k)))) e).fields)
 
   -- the row counts
-  pub leaf_count : (k : ℕ) → word rows r 0 ≡ k → (k ≡ 0) ⊎ (k ≡ 2) → word rows r 3 ≡ 1
-  leaf_count k e s = ⊎_elim (λ z. (kept 0 (e ∙ z)).measures.count) (λ z. (kept 2 (e ∙ z)).measures.count) s
-
   pub join_count : word rows r 0 ≡ 1 → word rows r 3 ≡ 1 + word rows (left_of rows r) 3 + word rows (r - 1) 3
   join_count e = (kept 1 e).measures.count
 

@@ -4,4 +4,6 @@ pub mod Rows
 pub mod Stored
 pub mod Walk
 -- what the contracts and the proofs speak of
+pub mod Stops
 pub mod Sink
+pub mod Leaves

@@ -1,5 +1,5 @@
 -- The rows of a document: the document that given rows stand for, and the row rules (document 01, number 9).
-use Rattle.std.specs.Prelude.{ℕ, zero, suc, ◌+◌, ◌-◌, ◌*◌, ◌<◌, Bool, true, ◌&&◌, cond, List, [], ◌≡◌, length, get_or, take, drop, leb, ltb, eqb}
+use Rattle.std.specs.Prelude.{ℕ, zero, suc, ◌+◌, ◌-◌, ◌*◌, ◌<◌, Bool, true, ◌&&◌, cond, Option, Some, None, List, [], ◌≡◌, length, get_or, take, drop, leb, ltb, eqb}
 use Rattle.document.specs.declared.measures.Measures.{Measures}
 use Rattle.document.specs.Doc.{Doc, text, join, break, nest, group, through, either}
 
@@ -108,6 +108,10 @@ whole rows total count = eqb (word rows (count - 1) 3) count && eqb (text_before
 unfoldable pub fault : List ℕ → ℕ → ℕ → ℕ
 fault rows total count =
     cond (ltb (scan rows total count 0) count) (scan rows total count 0) (cond (whole rows total count) count (count - 1))
+
+-- an index below a bound, or none: so `fault` is what the check finds
+abbrev pub found : ℕ → ℕ → Option ℕ
+found i bound = cond (ltb i bound) (Some i) None
 
 -- "its counts exceed its slices or limits, or it has no row": the contrary, for slices of so many words and bytes
 abbrev pub counts_ok : ℕ → ℕ → ℕ → ℕ → Bool

@@ -1,45 +1,82 @@
 // The check of a given document: its counts, then the row rules, rows rising, then the whole-document rule (number 9).
-ghost use Rattle.std.specs.Prelude.{◌≡◌, ◌+◌, ◌*◌, ◌<◌, ◌≤◌, length};
-ghost use Rattle.document.specs.Rows.{word, fields_ok, derived, rule_ok, own_text, fault, counts_ok};
+ghost use Rattle.std.specs.Prelude.{◌≡◌, ◌+◌, ◌*◌, ◌<◌, ◌≤◌, ◌&&◌, eqb, length};
+ghost use Rattle.document.specs.Rows.{word, fields_ok, derived, rule_ok, own_text, fault, found, counts_ok};
 
-use crate::measures::{Measures, joined, measures_in, word_at, word_in, wrapped};
-use basics::bools::both;
-use basics::numbers::less;
+use crate::measures::{Measures, joined, measures_in, word_in, wrapped};
 
-// Whether the counts are within the slices and the limits, and there is a row.
-pub fn counts_ok(words: usize, count: usize, bytes: usize, total: usize) -> bool
-    ensures { result ≡ counts_ok words count bytes total }
-{
-    if count == 0 {
-        return false;
-    }
-    if 16384 < count {
-        return false;
-    }
-    both(count * 7 <= words, both(total <= bytes, total <= 65536))
+// A given document: its areas, and how many rows and text bytes it is said to have.
+#[derive(Clone, Copy)]
+pub struct Document<'a> {
+    pub rows: &'a [u32],
+    pub count: usize,
+    pub text: &'a [u8],
+    pub total: usize,
 }
 
-// The rule of the kind and the two fields of row r, with `before` text bytes before it, of `total`.
-fn fields_ok(rows: &[u32], total: usize, before: usize, r: usize) -> bool
-    requires { (before ≤ 70368744177664) × (r * 7 + 7 ≤ length rows.now) }
-    ensures { result ≡ fields_ok rows.now total before r (word rows.now r 0) }
-{
-    let kind = word_in(rows, r, 0);
-    let a = word_in(rows, r, 1);
-    let b = word_in(rows, r, 2);
-    if kind == 0 {
-        return both(a == before, before + b <= total);
+impl Document<'_> {
+    // Whether the counts are within the slices and the limits, and there is a row.
+    pub fn counts_ok(&self) -> bool
+        ensures { result ≡ counts_ok (length self.now.rows.now) self.now.count (length self.now.text.now) self.now.total }
+    {
+        0 < self.count
+            && self.count <= 16384
+            && self.count * 7 <= self.rows.len()
+            && self.total <= self.text.len()
+            && self.total <= 65536
     }
-    if kind == 1 {
-        return both(word_in(rows, less(r, 1), 3) < r, both(a == 0, b == 0));
+
+    // The rule of the kind and the two fields of row r, with `before` text bytes before it. The kinds are words of the rows: 0 text, 1 join,
+    // 2 break, 3 nest, 4 group.
+    fn fields_ok(&self, before: usize, r: usize) -> bool
+        requires { (before ≤ 70368744177664) × (r * 7 + 7 ≤ length self.now.rows.now) }
+        ensures { result ≡ fields_ok self.now.rows.now self.now.total before r (word self.now.rows.now r 0) }
+    {
+        let a = word_in(self.rows, r, 1);
+        let b = word_in(self.rows, r, 2);
+        match word_in(self.rows, r, 0) {
+            0 => a == before && before + b <= self.total,
+            1 => word_in(self.rows, r.saturating_sub(1), 3) < r && a == 0 && b == 0,
+            2 => a < 2 && b == 0,
+            3 => 0 < r && a < 65 && b == 0,
+            kind => 0 < r && kind == 4 && a == 0 && b == 0,
+        }
     }
-    if kind == 2 {
-        return both(a < 2, b == 0);
+
+    // Whether row r keeps the row rules, with `before` text bytes before it.
+    fn row_ok(&self, before: usize, r: usize) -> bool
+        requires { (before ≤ 70368744177664) × (r * 7 + 7 ≤ length self.now.rows.now) }
+        ensures { result ≡ rule_ok self.now.rows.now self.now.total before r (word self.now.rows.now r 0) }
+    {
+        self.fields_ok(before, r) && measures_in(self.rows, r) == derived_at(self.rows, r)
     }
-    if kind == 3 {
-        return both(0 < r, both(a < 65, b == 0));
+
+    // Whether the subtree of row r is the whole document, with `before` text bytes before its end.
+    fn is_whole(&self, r: usize, before: usize) -> bool
+        requires { r * 7 + 7 ≤ length self.now.rows.now }
+        ensures { result ≡ eqb (word self.now.rows.now r 3) self.now.count && eqb before self.now.total }
+    {
+        word_in(self.rows, r, 3) == self.count && before == self.total
     }
-    both(0 < r, both(kind == 4, both(a == 0, b == 0)))
+
+    // The first faulty row.
+    pub fn fault(&self) -> Option<usize>
+        requires { (self.now.count ≤ 16384) × (self.now.count * 7 ≤ length self.now.rows.now) }
+        ensures { result ≡ found (fault self.now.rows.now self.now.total self.now.count) self.now.count }
+    {
+        let mut before: usize = 0;
+        for i in 0..self.count {
+            if !self.row_ok(before, i) {
+                return Some(i);
+            }
+            before += own_text(self.rows, i);
+        }
+        let last = self.count.checked_sub(1)?;
+        if self.is_whole(last, before) {
+            None
+        } else {
+            Some(last)
+        }
+    }
 }
 
 // The measures that row r must have.
@@ -47,50 +84,29 @@ fn derived_at(rows: &[u32], r: usize) -> Measures
     requires { r * 7 + 7 ≤ length rows.now }
     ensures { result ≡ derived rows.now r (word rows.now r 0) }
 {
-    let kind = word_in(rows, r, 0);
-    if kind == 0 {
-        let size = word_in(rows, r, 2);
-        return Measures {
+    let right = r.saturating_sub(1);
+    match word_in(rows, r, 0) {
+        0 => {
+            let size = word_in(rows, r, 2);
+            Measures {
+                count: 1,
+                flat: size,
+                first: size,
+                has: 0,
+            }
+        }
+        1 => {
+            let last = measures_in(rows, right);
+            joined(measures_in(rows, right.saturating_sub(last.count)), last)
+        }
+        2 => Measures {
             count: 1,
-            flat: size,
-            first: size,
-            has: 0,
-        };
-    }
-    if kind == 2 {
-        let blank = word_in(rows, r, 1);
-        return Measures {
-            count: 1,
-            flat: blank,
+            flat: word_in(rows, r, 1),
             first: 0,
             has: 1,
-        };
+        },
+        _ => wrapped(measures_in(rows, right)),
     }
-    let right = less(r, 1);
-    let last = measures_in(rows, right);
-    if kind == 1 {
-        let left = measures_in(rows, less(right, last.count));
-        return joined(left, last);
-    }
-    wrapped(last)
-}
-
-fn same(a: Measures, b: Measures) -> bool
-    ensures { result ≡ Rattle.document.specs.Rows.same a b }
-{
-    both(
-        a.count == b.count,
-        both(a.flat == b.flat, both(a.first == b.first, a.has == b.has)),
-    )
-}
-
-// Whether row r keeps the row rules, with `before` text bytes before it.
-fn row_ok(rows: &[u32], total: usize, before: usize, r: usize) -> bool
-    requires { (before ≤ 70368744177664) × (r * 7 + 7 ≤ length rows.now) }
-    ensures { result ≡ rule_ok rows.now total before r (word rows.now r 0) }
-{
-    let fields = fields_ok(rows, total, before, r);
-    both(fields, same(measures_in(rows, r), derived_at(rows, r)))
 }
 
 // The text bytes of row r itself.
@@ -102,27 +118,5 @@ fn own_text(rows: &[u32], r: usize) -> usize
         word_in(rows, r, 2)
     } else {
         0
-    }
-}
-
-// The first faulty row of `count` rows, or `count`.
-pub fn find_fault(rows: &[u32], total: usize, count: usize) -> usize
-    requires { (count ≤ 16384) × (count * 7 ≤ length rows.now) }
-    ensures { result ≡ fault rows.now total count }
-{
-    let mut i: usize = 0;
-    let mut before: usize = 0;
-    while i < count {
-        if !row_ok(rows, total, before, i) {
-            return i;
-        }
-        before = before + own_text(rows, i);
-        i += 1;
-    }
-    let last = less(count, 1);
-    if both(word_at(rows, last, 3) == count, before == total) {
-        count
-    } else {
-        last
     }
 }

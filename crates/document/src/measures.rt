@@ -1,11 +1,10 @@
 // The words of rows, and the measures of a row's subtree: its last four words.
-ghost use Rattle.std.specs.Prelude.{◌≡◌, ◌+◌, ◌-◌, ◌*◌, ◌<◌, ◌≤◌, length};
-ghost use Rattle.document.specs.Doc.{either};
+ghost use Rattle.std.specs.Prelude.{◌≡◌, ℕ, ◌+◌, ◌-◌, ◌*◌, ◌<◌, ◌≤◌, length};
+ghost use Rattle.document.specs.Doc;
 ghost use Rattle.document.specs.Rows.{word, left_of, measures_at, Small};
 
-use basics::numbers::less;
-
-#[derive(Clone, Copy)]
+// Its last word, `has`, is 1 if there is a break and else 0: a number, as C has it in a document's row.
+#[derive(Clone, Copy, Debug, PartialEq, Eq)]
 pub struct Measures {
     pub count: usize,
     pub flat: usize,
@@ -22,7 +21,7 @@ pub fn word_at(rows: &[u32], r: usize, k: usize) -> usize
         return 0;
     }
     let i = r * 7 + k;
-    if i < rows.len() { rows[i] as usize } else { 0 }
+    rows.get(i).map_or(0, |w| *w as usize)
 }
 
 // The same of a row that lies in the area, without a test.
@@ -39,50 +38,39 @@ pub fn left_of(rows: &[u32], r: usize) -> usize
     ensures { result ≡ left_of rows.now r }
 {
     let right = r - 1;
-    less(right, word_in(rows, right, 3))
+    right.saturating_sub(word_in(rows, right, 3))
 }
 
-// Each word by itself: the row may lie past the area, or partly.
-fn measures_by_word(rows: &[u32], r: usize) -> Measures
-    ensures { (result ≡ measures_at rows.now r) × Small result }
+// The measures of a row, whose words are read so.
+fn measures_of<F: Fn(usize) -> usize>(word: F) -> Measures
+    requires { (k : ℕ) → k < 7 → F.pre word k }
+    ensures { F.post word 3 result.count × (F.post word 4 result.flat × (F.post word 5 result.first × F.post word 6 result.has)) }
 {
-    let count = word_at(rows, r, 3);
-    let flat = word_at(rows, r, 4);
-    let first = word_at(rows, r, 5);
-    let has = word_at(rows, r, 6);
     Measures {
-        count,
-        flat,
-        first,
-        has,
+        count: word(3),
+        flat: word(4),
+        first: word(5),
+        has: word(6),
     }
 }
 
-// The same of a row that lies in the area, without tests.
+// Of a row that lies in the area, without tests.
 pub fn measures_in(rows: &[u32], r: usize) -> Measures
     requires { r * 7 + 7 ≤ length rows.now }
     ensures { (result ≡ measures_at rows.now r) × Small result }
 {
-    let count = word_in(rows, r, 3);
-    let flat = word_in(rows, r, 4);
-    let first = word_in(rows, r, 5);
-    let has = word_in(rows, r, 6);
-    Measures {
-        count,
-        flat,
-        first,
-        has,
-    }
+    measures_of(|k| word_in(rows, r, k))
 }
 
 // Of any row: most lie in the area.
 pub fn measures_at(rows: &[u32], r: usize) -> Measures
     ensures { (result ≡ measures_at rows.now r) × Small result }
 {
-    if rows.len() / 7 <= r {
-        return measures_by_word(rows, r);
+    if r < rows.len() / 7 {
+        measures_in(rows, r)
+    } else {
+        measures_of(|k| word_at(rows, r, k))
     }
-    measures_in(rows, r)
 }
 
 // The distance to the first break from the start of a part, where it is `after` at the part's end.
@@ -93,19 +81,13 @@ pub fn through(has: usize, first: usize, after: usize) -> usize
     if has == 0 { first + after } else { first }
 }
 
-fn one_if_either(a: usize, b: usize) -> usize
-    ensures { result ≡ either a b }
-{
-    if a == 0 { b } else { 1 }
-}
-
 // The measures of a join, from its children's.
 pub fn joined(a: Measures, b: Measures) -> Measures
     requires { Small a × Small b }
     ensures { result ≡ Rattle.document.specs.Rows.joined a b }
 {
     let first = through(a.has, a.first, b.first);
-    let has = one_if_either(a.has, b.has);
+    let has = if a.has == 0 { b.has } else { 1 };
     Measures {
         count: 1 + a.count + b.count,
         flat: a.flat + b.flat,

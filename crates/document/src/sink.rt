@@ -1,288 +1,246 @@
-// The sink that printers emit a document into. It is sticky: once it has stopped, no function writes or changes anything, so that
-// printers need no branch after each call. Each function takes both areas, also where it uses one, so that all contracts have one shape.
-ghost use Rattle.std.specs.Prelude.{◌≡◌, ◌-◌, ◌≤◌, [], ◌∷◌, length, replicate};
-ghost use Rattle.std.proofs.lemmas.List.Edits.{sets};
-ghost use Rattle.document.specs.Sink.{Leaves, put_row, put_byte, put_bytes, room_of, end_text, put_text, put_break, put_join, put_nest, put_group, put_wrapped, put_names};
+// The sink that printers emit a document into: the two areas that it is lent, and how far it has come in them. It is sticky: once it has
+// stopped, no function writes or changes anything, so that printers need no branch after each call.
+ghost use Rattle.std.specs.Prelude.{◌≡◌, [], ◌∷◌, length, replicate, is_some};
+ghost use Rattle.document.specs.Sink.{refuse, put_row, put_byte, put_bytes, room_of, end_text, put_text, put_break, put_join, put_nest, put_group, put_wrapped, put_names, stop_with};
+ghost use Rattle.document.specs.Leaves.{Leaves, Begins};
+ghost use Rattle.document.specs.Rows.{Small};
 
 use crate::measures::{Measures, joined, measures_at, wrapped};
-use basics::numbers::{less, lesser, low};
+use crate::written::{Stop, Written};
+use basics::numbers::low;
 
-// The rows and text bytes written so far; the number that stopped the walk, or 0, and its place.
-#[derive(Clone, Copy)]
-pub struct Sink {
-    pub rows: usize,
-    pub text: usize,
-    pub stop: u32,
-    pub place: usize,
+#[derive(Drop)]
+pub struct Sink<'a> {
+    pub rows: &'a mut [u32],
+    pub text: &'a mut [u8],
+    pub written: Written,
 }
 
-pub fn start() -> Sink
-    ensures { result ≡ Rattle.document.specs.Sink.start }
-{
-    Sink {
-        rows: 0,
-        text: 0,
-        stop: 0,
-        place: 0,
-    }
-}
-
-impl Sink {
-    fn stopped_at(self, number: u32, place: usize) -> Sink
-        ensures { result ≡ Rattle.document.specs.Sink.stopped_at number place self }
+impl<'a> Sink<'a> {
+    // Both areas are cleared first.
+    pub fn new(rows: &'a mut [u32], text: &'a mut [u8]) -> Sink<'a>
+        ensures { Begins rows.entry text.entry result }
     {
+        clear(rows, text);
         Sink {
-            rows: self.rows,
-            text: self.text,
-            stop: number,
-            place,
+            rows,
+            text,
+            written: Written::default(),
         }
     }
-}
 
-// Number 7, at the place of a chain or a let.
-pub fn refuse(rows: &mut [u32], text: &mut [u8], s: Sink, place: usize) -> Sink
-    ensures { Leaves rows text s result (Rattle.document.specs.Sink.refuse place) }
-{
-    if s.stop != 0 {
-        return s;
+    pub fn is_stopped(&self) -> bool
+        ensures { result ≡ is_some self.now.written.stop }
+    {
+        self.written.stop.is_some()
     }
-    s.stopped_at(7, place)
-}
 
-// The names of a chain or a let come into force, `count` of them in all.
-pub fn put_names(rows: &mut [u32], text: &mut [u8], s: Sink, place: usize, count: usize) -> Sink
-    ensures { Leaves rows text s result (put_names place count) }
-{
-    if count <= 1024 {
-        return s;
+    fn stop(&mut self, stop: Stop)
+        ensures { Leaves self.old self.new (stop_with stop) }
+    {
+        self.written.stop = Some(stop);
     }
-    refuse(rows, text, s, place)
-}
 
-// One row. Number 8 is tested before 20.
-fn put_row(
-    rows: &mut [u32],
-    text: &mut [u8],
-    s: Sink,
-    kind: u32,
-    a: u32,
-    b: u32,
-    m: Measures,
-) -> Sink
-    ensures { Leaves rows text s result (put_row kind a b m) }
-{
-    if s.stop != 0 {
-        return s;
+    // Number 7, at the place of a chain or a let.
+    #[tactic(auto, unfolding(crate::specs::Sink::refuse))]
+    pub fn refuse(&mut self, place: usize)
+        ensures { Leaves self.old self.new (refuse place) }
+    {
+        if !self.is_stopped() {
+            self.stop(Stop::Names { row: place });
+        }
     }
-    let written = s.rows;
-    if written >= 16384 {
-        return s.stopped_at(8, written);
+
+    // The names of a chain or a let come into force, `count` of them in all.
+    #[tactic(auto, unfolding(crate::specs::Sink::put_names))]
+    pub fn put_names(&mut self, place: usize, count: usize)
+        ensures { Leaves self.old self.new (put_names place count) }
+    {
+        if 1024 < count {
+            self.refuse(place);
+        }
     }
-    let at = written * 7;
-    if rows.len() < at + 7 {
-        return s.stopped_at(20, written);
+
+    // One row. Number 8 is tested before 20.
+    #[tactic(auto, using(crate::proofs::Areas::row_over), unfolding(crate::specs::Sink::put_row))]
+    fn put_row(&mut self, kind: u32, a: u32, b: u32, m: Measures)
+        ensures { Leaves self.old self.new (put_row kind a b m) }
+    {
+        if self.is_stopped() {
+            return;
+        }
+        let rows = self.written.rows;
+        if rows >= 16384 {
+            return self.stop(Stop::Document { rows });
+        }
+        let at = rows * 7;
+        if self.rows.len() < at + 7 {
+            return self.stop(Stop::RowArea { rows });
+        }
+        // Word by word: an array that is copied over is made on the stack first.
+        let row = &mut self.rows[at..at + 7];
+        row[0] = kind;
+        row[1] = a;
+        row[2] = b;
+        row[3] = low(m.count);
+        row[4] = low(m.flat);
+        row[5] = low(m.first);
+        row[6] = low(m.has);
+        self.written.rows = rows + 1;
     }
-    let count = low(m.count);
-    let flat = low(m.flat);
-    let first = low(m.first);
-    let has = low(m.has);
-    rows[at] = kind;
-    rows[at + 1] = a;
-    rows[at + 2] = b;
-    rows[at + 3] = count;
-    rows[at + 4] = flat;
-    rows[at + 5] = first;
-    rows[at + 6] = has;
-    Sink {
-        rows: written + 1,
-        text: s.text,
-        stop: s.stop,
-        place: s.place,
+
+    // One text byte. Number 8 is tested before 21.
+    #[tactic(auto, unfolding(crate::specs::Sink::put_byte))]
+    pub fn put_byte(&mut self, b: u8)
+        ensures { Leaves self.old self.new (put_byte b) }
+    {
+        if self.is_stopped() {
+            return;
+        }
+        let at = self.written.text;
+        let rows = self.written.rows;
+        if at >= 65536 {
+            return self.stop(Stop::Document { rows });
+        }
+        if at >= self.text.len() {
+            return self.stop(Stop::TextArea { rows });
+        }
+        self.text[at] = b;
+        self.written.text = at + 1;
     }
-}
 
-// One text byte. Number 8 is tested before 21.
-pub fn put_byte(rows: &mut [u32], text: &mut [u8], s: Sink, b: u8) -> Sink
-    ensures { Leaves rows text s result (put_byte b) }
-{
-    if s.stop != 0 {
-        return s;
+    // One byte after the other, up to the one that is refused.
+    #[tactic(auto, using(crate::proofs::Areas::bytes_more), unfolding(crate::specs::Sink::put_bytes))]
+    fn put_each(&mut self, bytes: &[u8])
+        ensures { Leaves self.old self.new (put_bytes bytes.now) }
+    {
+        for b in bytes {
+            self.put_byte(*b);
+        }
     }
-    let at = s.text;
-    if at >= 65536 {
-        return s.stopped_at(8, s.rows);
+
+    // How many bytes more the text area takes before one is refused.
+    fn room(&self) -> usize
+        ensures { result ≡ room_of self.now.written (length self.now.text.now) }
+    {
+        if self.is_stopped() {
+            return 0;
+        }
+        self.text.len().min(65536).saturating_sub(self.written.text)
     }
-    if at >= text.len() {
-        return s.stopped_at(21, s.rows);
+
+    // Text bytes without their row: a text may be written in pieces, and `end_text` writes its row.
+    // One byte alone, the commonest text, needs no copy; and where all bytes have room, no byte is tested by itself.
+    #[tactic(auto, using(crate::proofs::Areas::bytes_one, crate::proofs::Areas::bytes_fit, crate::proofs::Areas::put_part))]
+    pub fn put_bytes(&mut self, bytes: &[u8])
+        ensures { Leaves self.old self.new (put_bytes bytes.now) }
+    {
+        if let [b] = bytes {
+            return self.put_byte(*b);
+        }
+        if bytes.is_empty() || self.room() < bytes.len() {
+            return self.put_each(bytes);
+        }
+        let at = self.written.text;
+        let end = at + bytes.len();
+        self.text[at..end].copy_from_slice(bytes);
+        self.written.text = end;
     }
-    text[at] = b;
-    Sink {
-        rows: s.rows,
-        text: at + 1,
-        stop: s.stop,
-        place: s.place,
+
+    // The row of the text whose bytes were written from `from` on.
+    #[tactic(auto, unfolding(crate::specs::Sink::end_text))]
+    pub fn end_text(&mut self, from: usize)
+        ensures { Leaves self.old self.new (end_text from) }
+    {
+        let size = self.written.text.saturating_sub(from);
+        let m = Measures {
+            count: 1,
+            flat: size,
+            first: size,
+            has: 0,
+        };
+        self.put_row(0, low(from), low(size), m);
     }
-}
 
-// One byte after the other, up to the one that is refused.
-fn put_each(rows: &mut [u32], text: &mut [u8], s: Sink, bytes: &[u8]) -> Sink
-    ensures { Leaves rows text s result (put_bytes bytes.now) }
-{
-    let mut o = s;
-    let mut i = 0;
-    while i < bytes.len() {
-        o = put_byte(rows, text, o, bytes[i]);
-        i += 1;
+    #[tactic(auto, unfolding(crate::specs::Sink::put_text))]
+    pub fn put_text(&mut self, bytes: &[u8])
+        ensures { Leaves self.old self.new (put_text bytes.now) }
+    {
+        let from = self.written.text;
+        self.put_bytes(bytes);
+        self.end_text(from);
     }
-    o
-}
 
-// How many bytes more a text area of so many bytes takes before one is refused.
-fn room(s: Sink, size: usize) -> usize
-    ensures { result ≡ room_of s size }
-{
-    if s.stop != 0 {
-        return 0;
+    // A text of a few bytes: here the loop of single bytes is shorter than the choice of a way.
+    #[tactic(auto, unfolding(crate::specs::Sink::put_text))]
+    pub fn put_short(&mut self, bytes: &[u8])
+        ensures { Leaves self.old self.new (put_text bytes.now) }
+    {
+        let from = self.written.text;
+        self.put_each(bytes);
+        self.end_text(from);
     }
-    less(lesser(size, 65536), s.text)
-}
 
-// Stores bytes from a place on, without a test.
-fn store(text: &mut [u8], at: usize, bytes: &[u8])
-    requires { length bytes.now ≤ length text.old - at }
-    ensures { text.new ≡ sets text.old at bytes.now }
-{
-    let mut i = 0;
-    while i < bytes.len() {
-        text[at + i] = bytes[i];
-        i += 1;
+    // A text of one byte.
+    #[tactic(auto, unfolding(crate::specs::Sink::put_text, crate::specs::Sink::put_bytes))]
+    pub fn put_sign(&mut self, b: u8)
+        ensures { Leaves self.old self.new (put_text (b ∷ [])) }
+    {
+        let from = self.written.text;
+        self.put_byte(b);
+        self.end_text(from);
     }
-}
 
-// Text bytes without their row: a text may be written in pieces, and `end_text` writes its row.
-// One byte alone, the commonest text, needs no copy; and where all bytes have room, no byte is tested by itself.
-pub fn put_bytes(rows: &mut [u32], text: &mut [u8], s: Sink, bytes: &[u8]) -> Sink
-    ensures { Leaves rows text s result (put_bytes bytes.now) }
-{
-    let count = bytes.len();
-    if count == 1 {
-        return put_byte(rows, text, s, bytes[0]);
+    #[tactic(auto, unfolding(crate::specs::Sink::put_break))]
+    pub fn put_break(&mut self, blank: u32)
+        ensures { Leaves self.old self.new (put_break blank) }
+    {
+        let m = Measures {
+            count: 1,
+            flat: blank as usize,
+            first: 0,
+            has: 1,
+        };
+        self.put_row(2, blank, 0, m);
     }
-    if room(s, text.len()) < count {
-        return put_each(rows, text, s, bytes);
+
+    // The measures of the subtree that ends at a row.
+    fn measured(&self, row: usize) -> Measures
+        ensures { (result ≡ Rattle.document.specs.Rows.measures_at self.now.rows.now row) × Small result }
+    {
+        measures_at(self.rows, row)
     }
-    let at = s.text;
-    store(text, at, bytes);
-    Sink {
-        rows: s.rows,
-        text: at + count,
-        stop: s.stop,
-        place: s.place,
+
+    // Joins the two subtrees written last.
+    #[tactic(auto, unfolding(crate::specs::Sink::put_join))]
+    pub fn put_join(&mut self)
+        ensures { Leaves self.old self.new put_join }
+    {
+        let last = self.written.rows.saturating_sub(1);
+        let right = self.measured(last);
+        let left = self.measured(last.saturating_sub(right.count));
+        self.put_row(1, 0, 0, joined(left, right));
     }
-}
 
-// The row of the text whose bytes were written from `from` on.
-pub fn end_text(rows: &mut [u32], text: &mut [u8], s: Sink, from: usize) -> Sink
-    ensures { Leaves rows text s result (end_text from) }
-{
-    let size = less(s.text, from);
-    let m = Measures {
-        count: 1,
-        flat: size,
-        first: size,
-        has: 0,
-    };
-    put_row(rows, text, s, 0, low(from), low(size), m)
-}
-
-pub fn put_text(rows: &mut [u32], text: &mut [u8], s: Sink, bytes: &[u8]) -> Sink
-    ensures { Leaves rows text s result (put_text bytes.now) }
-{
-    let from = s.text;
-    let o = put_bytes(rows, text, s, bytes);
-    end_text(rows, text, o, from)
-}
-
-// A text of a few bytes: here the loop of single bytes is shorter than the choice of a way.
-pub fn put_short(rows: &mut [u32], text: &mut [u8], s: Sink, bytes: &[u8]) -> Sink
-    ensures { Leaves rows text s result (put_text bytes.now) }
-{
-    let from = s.text;
-    let o = put_each(rows, text, s, bytes);
-    end_text(rows, text, o, from)
-}
-
-// A text of one byte.
-pub fn put_sign(rows: &mut [u32], text: &mut [u8], s: Sink, b: u8) -> Sink
-    ensures { Leaves rows text s result (put_text (b ∷ [])) }
-{
-    let from = s.text;
-    let o = put_byte(rows, text, s, b);
-    end_text(rows, text, o, from)
-}
-
-pub fn put_break(rows: &mut [u32], text: &mut [u8], s: Sink, blank: u32) -> Sink
-    ensures { Leaves rows text s result (put_break blank) }
-{
-    let m = Measures {
-        count: 1,
-        flat: blank as usize,
-        first: 0,
-        has: 1,
-    };
-    put_row(rows, text, s, 2, blank, 0, m)
-}
-
-// Joins the two subtrees written last.
-pub fn put_join(rows: &mut [u32], text: &mut [u8], s: Sink) -> Sink
-    ensures { Leaves rows text s result put_join }
-{
-    let last = less(s.rows, 1);
-    let right = measures_at(rows, last);
-    let left = measures_at(rows, less(last, right.count));
-    let m = joined(left, right);
-    put_row(rows, text, s, 1, 0, 0, m)
-}
-
-// Puts a row of a kind over the subtree written last.
-fn put_wrapped(rows: &mut [u32], text: &mut [u8], s: Sink, kind: u32, a: u32) -> Sink
-    ensures { Leaves rows text s result (put_wrapped kind a) }
-{
-    let m = wrapped(measures_at(rows, less(s.rows, 1)));
-    put_row(rows, text, s, kind, a, 0, m)
-}
-
-pub fn put_nest(rows: &mut [u32], text: &mut [u8], s: Sink, amount: u32) -> Sink
-    ensures { Leaves rows text s result (put_nest amount) }
-{
-    put_wrapped(rows, text, s, 3, amount)
-}
-
-pub fn put_group(rows: &mut [u32], text: &mut [u8], s: Sink) -> Sink
-    ensures { Leaves rows text s result put_group }
-{
-    put_wrapped(rows, text, s, 4, 0)
-}
-
-// All words to zero.
-pub fn clear_words(area: &mut [u32])
-    ensures { area.new ≡ replicate (length area.old) 0 }
-{
-    let mut i = 0;
-    while i < area.len() {
-        area[i] = 0;
-        i += 1;
+    // Puts a row of a kind over the subtree written last.
+    #[tactic(auto, unfolding(crate::specs::Sink::put_wrapped))]
+    fn put_wrapped(&mut self, kind: u32, a: u32)
+        ensures { Leaves self.old self.new (put_wrapped kind a) }
+    {
+        let last = self.written.rows.saturating_sub(1);
+        self.put_row(kind, a, 0, wrapped(self.measured(last)));
     }
-}
 
-fn clear_bytes(area: &mut [u8])
-    ensures { area.new ≡ replicate (length area.old) 0 }
-{
-    let mut i = 0;
-    while i < area.len() {
-        area[i] = 0;
-        i += 1;
+    pub fn put_nest(&mut self, amount: u32)
+        ensures { Leaves self.old self.new (put_nest amount) }
+    {
+        self.put_wrapped(3, amount);
+    }
+
+    pub fn put_group(&mut self)
+        ensures { Leaves self.old self.new put_group }
+    {
+        self.put_wrapped(4, 0);
     }
 }
 
@@ -291,6 +249,6 @@ pub fn clear(rows: &mut [u32], text: &mut [u8])
     ensures { (rows.new ≡ replicate (length rows.old) 0)
         × (text.new ≡ replicate (length text.old) 0) }
 {
-    clear_words(rows);
-    clear_bytes(text);
+    rows.fill(0);
+    text.fill(0);
 }

@@ -1,227 +1,144 @@
--- Laws of steps from what was owed to what is owed, and of parts put aside.
-use Prim.Native.Nat.{ℕ, zero, suc, ◌-◌}
+-- Laws of parts put aside.
+use Prim.Native.Nat.{ℕ, zero, suc, ◌+◌, ◌-◌}
 use native.Mathlib.Omega.{arith}
+use mathlib.Core.Bool.{Bool, true, false, ◌||◌, cond}
 use mathlib.Core.List.{List}
-use mathlib.Core.Path.{◌≡◌, refl, sym, ap, ◌∙◌, subst}
+use mathlib.Core.Logic.{◌↔◌, inl, inr}
+use mathlib.Core.Path.{◌≡◌, refl, sym, subst}
+use lib.Dec.{eqb}
 use Rattle.pool.specs.Tables.{expr_word}
 use Rattle.pool.specs.Tree.{Shape}
 use Rattle.links.specs.Links.{Owes, Linked, Put}
 use Rattle.occurrence.specs.Parts.{first_part, second_part, body_part}
-use Rattle.equality.specs.Sweep.{Tied, PartsTied, Moved, PutPart, LinkPart, PutParts, LinkParts}
-
-pub nothing : (A B : Type 0) → Moved A B 2
-nothing A B = record { refuted = λ e. absurd (omega arith); down = λ e. absurd (omega arith); up = λ e. absurd (omega arith) }
+use Rattle.equality.specs.Sweep.{Tied, PartBy, PartsBy, PutParts, LinkParts}
 
 -- ---- two parts
 
-pub tied_none : (F S : ℕ → Shape) (x y : ℕ) → x ≡ 0 → y ≡ 0 → Tied F S x y
+tied_none : (F S : ℕ → Shape) (x y : ℕ) → x ≡ 0 → y ≡ 0 → Tied F S x y
 unfolding Tied
 tied_none F S zero zero e q = refl
 tied_none F S zero (suc y) e q = absurd (omega arith)
 tied_none F S (suc x) y e q = absurd (omega arith)
 
-pub tied_first : (F S : ℕ → Shape) (x y : ℕ) → x ≡ 0 → (y ≡ 0 → ⊥) → Tied F S x y → ⊥
+tied_both : (F S : ℕ → Shape) (x y : ℕ) → (x ≡ 0 → ⊥) → (y ≡ 0 → ⊥) → Tied F S x y ↔ (F (x - 1) ≡ S (y - 1))
 unfolding Tied
-tied_first F S zero zero e n h = n refl
-tied_first F S zero (suc y) e n h = h
-tied_first F S (suc x) y e n h = absurd (omega arith)
+tied_both F S zero y n m = absurd (n refl)
+tied_both F S (suc x) zero n m = absurd (m refl)
+tied_both F S (suc x) (suc y) n m =
+    let e : suc x - 1 ≡ x = omega arith in
+    let g : suc y - 1 ≡ y = omega arith in
+    (λ h. cc, λ h. cc)
 
-pub tied_second : (F S : ℕ → Shape) (x y : ℕ) → (x ≡ 0 → ⊥) → y ≡ 0 → Tied F S x y → ⊥
-unfolding Tied
-tied_second F S zero y n e h = n refl
-tied_second F S (suc x) zero n e h = h
-tied_second F S (suc x) (suc y) n e h = absurd (omega arith)
+-- two parts put aside, where a step does what `link` does, or leaves all as it is where neither part is there
+module _ {F : Type 0} (R : Bool → ℕ → ℕ → F → F → Type 0) (b : Bool) (x y : ℕ) (s : x ≡ 0 ↔ y ≡ 0) where
+  ties : (x ≡ 0 → ⊥) → (G S : ℕ → Shape) → Tied G S x y ↔ (G (x - 1) ≡ S (y - 1))
+  ties n G S = tied_both G S x y n (λ e. n (s.1 e))
 
-pub tied_to : (F S : ℕ → Shape) (x y : ℕ) → (x ≡ 0 → ⊥) → (y ≡ 0 → ⊥) → F (x - 1) ≡ S (y - 1) → Tied F S x y
-unfolding Tied
-tied_to F S zero y n m h = absurd (n refl)
-tied_to F S (suc x) zero n m h = absurd (m refl)
-tied_to F S (suc x) (suc y) n m h =
-    ap F (let e : x ≡ suc x - 1 = omega arith in e) ∙ h ∙ ap S (let e : suc y - 1 ≡ y = omega arith in e)
+  moves : (f g : F) (now : F → Type 0) (G S : ℕ → Shape) → (x ≡ 0) × (g ≡ f) → (now f × Tied G S x y) ↔ now g
+  moves f g now G S p = (λ o. subst now (sym p.1) o.0, λ o. (subst now p.1 o, tied_none G S x y p.0 (s.0 p.0)))
 
-pub tied_from : (F S : ℕ → Shape) (x y : ℕ) → (x ≡ 0 → ⊥) → (y ≡ 0 → ⊥) → Tied F S x y → F (x - 1) ≡ S (y - 1)
-unfolding Tied
-tied_from F S zero y n m h = absurd (n refl)
-tied_from F S (suc x) zero n m h = absurd (m refl)
-tied_from F S (suc x) (suc y) n m h =
-    ap F (let e : suc x - 1 ≡ x = omega arith in e) ∙ h ∙ ap S (let e : y ≡ suc y - 1 = omega arith in e)
+  link_one : (now : F → List ℕ) → ((u w : ℕ) (f g : F) → R b u w f g → Linked (now f) (now g) u w) → (f g : F) → PartBy R b x y f g → (S : ℕ → Shape)
+      → (Owes S S (now f) × Tied S S x y) ↔ Owes S S (now g)
+  link_one now h f g (inl p) S = moves f g (λ (k : F). Owes S S (now k)) S S p
+  link_one now h f g (inr p) S =
+      let l = h (x - 1) (y - 1) f g p.1 in
+      (λ o. l.up S o.0 ((ties p.0 S S).0 o.1), λ o. (l.down S o, (ties p.0 S S).1 (l.tied S o)))
 
-module _ (array owed : List ℕ) (x y : ℕ) where
-  pub put_none : x ≡ 0 → y ≡ 0 → PutPart array owed array owed x y 1
-  put_none e q =
-      record { moved = λ F S. record { refuted = λ z. absurd (omega arith); down = λ z o. (o, tied_none F S x y e q); up = λ z o. o.0 } }
-
-  pub put_first_alone : x ≡ 0 → (y ≡ 0 → ⊥) → PutPart array owed array owed x y 0
-  put_first_alone e n =
-      record { moved = λ F S. record { refuted = λ z o. tied_first F S x y e n o.1; down = λ z. absurd (omega arith); up = λ z. absurd (omega arith) } }
-
-  pub put_second_alone : (x ≡ 0 → ⊥) → y ≡ 0 → PutPart array owed array owed x y 0
-  put_second_alone n e =
-      record { moved = λ F S. record { refuted = λ z o. tied_second F S x y n e o.1; down = λ z. absurd (omega arith); up = λ z. absurd (omega arith) } }
-
-  module _ (n : x ≡ 0 → ⊥) (m : y ≡ 0 → ⊥) where
-    pub put_both : (array' owed' : List ℕ) → Put array owed array' owed' (x - 1) (y - 1) → PutPart array owed array' owed' x y 1
-    put_both array' owed' p =
-        record {
-          moved = λ F S. record {
-            refuted = λ z. absurd (omega arith);
-            down = λ z o. (p.down F S o.0 o.1, tied_to F S x y n m (p.tied F S o.0 o.1));
-            up = λ z o. p.up F S o.0.0 o.0.1 (tied_from F S x y n m o.1);
-          };
-        }
-
-  pub put-not : (array' owed' : List ℕ) → PutPart array owed array' owed' x y 2
-  put-not array' owed' = record { moved = λ F S. nothing _ _ }
-
-module _ (owed : List ℕ) (x y : ℕ) where
-  pub link_none : x ≡ 0 → y ≡ 0 → LinkPart owed owed x y 1
-  link_none e q =
-      record { moved = λ S. record { refuted = λ z. absurd (omega arith); down = λ z o. (o, tied_none S S x y e q); up = λ z o. o.0 } }
-
-  pub link_first_alone : x ≡ 0 → (y ≡ 0 → ⊥) → LinkPart owed owed x y 0
-  link_first_alone e n =
-      record { moved = λ S. record { refuted = λ z o. tied_first S S x y e n o.1; down = λ z. absurd (omega arith); up = λ z. absurd (omega arith) } }
-
-  pub link_second_alone : (x ≡ 0 → ⊥) → y ≡ 0 → LinkPart owed owed x y 0
-  link_second_alone n e =
-      record { moved = λ S. record { refuted = λ z o. tied_second S S x y n e o.1; down = λ z. absurd (omega arith); up = λ z. absurd (omega arith) } }
-
-  pub link_both : (x ≡ 0 → ⊥) → (y ≡ 0 → ⊥) → (owed' : List ℕ) → Linked owed owed' (x - 1) (y - 1) → LinkPart owed owed' x y 1
-  link_both n m owed' l =
-      record {
-        moved = λ S. record {
-          refuted = λ z. absurd (omega arith);
-          down = λ z o. (l.down S o, tied_to S S x y n m (l.tied S o));
-          up = λ z o. l.up S o.0 (tied_from S S x y n m o.1);
-        };
-      }
-
-  pub link_not : (owed' : List ℕ) → LinkPart owed owed' x y 2
-  link_not owed' = record { moved = λ S. nothing _ _ }
+  put_one : (array other owed : F → List ℕ)
+      → ((u w : ℕ) (f g : F) → R b u w f g → Put (array f) (owed f) (array g) (owed g) u w × (other g ≡ other f)) → (f g : F) → PartBy R b x y f g
+      → (G H S : ℕ → Shape) → ((Owes G S (array f) × Owes H S (other f) × Owes S S (owed f)) × Tied G S x y) ↔ (Owes G S (array g) × Owes H S (other g) × Owes S S (owed g))
+  put_one array other owed h f g (inl p) G H S = moves f g (λ (k : F). Owes G S (array k) × Owes H S (other k) × Owes S S (owed k)) G S p
+  put_one array other owed h f g (inr p) G H S =
+      let l = h (x - 1) (y - 1) f g p.1 in (
+        λ o.
+            let n = l.0.up G S o.0.0 o.0.2 ((ties p.0 G S).0 o.1) in
+            (n.0, subst (Owes H S) (sym l.1) o.0.1, n.1),
+        λ o.
+            let n = l.0.down G S o.0 o.2 in
+            ((n.0, subst (Owes H S) l.1 o.1, n.1), (ties p.0 G S).1 (l.0.tied G S o.0 o.2)),
+      )
 
 -- ---- all parts of two rows
 
-module _ (ws : List ℕ) (a b kind : ℕ) (ek : kind ≡ expr_word ws a 0) (cur next owed : List ℕ) (x y : ℕ) (ex : x ≡ first_part ws a kind) (ey : y ≡ first_part ws b kind)
-    (cur₁ owed₁ : List ℕ) (v₁ : ℕ) (p₁ : PutPart cur owed cur₁ owed₁ x y v₁) where
-  first_to_lem : (F S : ℕ → Shape) → Tied F S x y → Tied F S (first_part ws a (expr_word ws a 0)) (first_part ws b (expr_word ws a 0))
-  first_to_lem F S h = subst (λ (k : ℕ). Tied F S (first_part ws a k) (first_part ws b k)) ek (rw (← ex, ← ey) h)
+-- rows of one kind have the same parts
+some_or : (v : Bool) (x x' y y' : ℕ) → (y ≡ 0 ↔ y' ≡ 0) → (cond v (x + 1) y ≡ 0) ↔ (cond v (x' + 1) y' ≡ 0)
+some_or true x x' y y' g = (λ e. absurd (omega arith), λ e. absurd (omega arith))
+some_or false x x' y y' g = g
 
-  first_from : (F S : ℕ → Shape) → Tied F S (first_part ws a (expr_word ws a 0)) (first_part ws b (expr_word ws a 0)) → Tied F S x y
-  first_from F S h = rw (ex, ey) (subst (λ (k : ℕ). Tied F S (first_part ws a k) (first_part ws b k)) (sym ek) h)
+module _ (ws : List ℕ) (a b k : ℕ) where
+  abbrev wa : ℕ → ℕ
+  wa = expr_word ws a
 
-  pub parts_one : (v₁ ≡ 1 → ⊥) → PutParts ws a b cur next owed cur₁ next owed₁ v₁
-  parts_one n =
+  abbrev wb : ℕ → ℕ
+  wb = expr_word ws b
+
+  last : (v : Bool) (i : ℕ) → (cond v (wa i + 1) 0 ≡ 0) ↔ (cond v (wb i + 1) 0 ≡ 0)
+  last v i = some_or v (wa i) (wb i) 0 0 (λ e. e, λ e. e)
+
+  pub first_alike : (x y : ℕ) → x ≡ first_part ws a k → y ≡ first_part ws b k → x ≡ 0 ↔ y ≡ 0
+  unfolding first_part
+  first_alike x y e g =
+      rw (e, g)
+      (some_or (eqb k 3) (wa 1) (wb 1) _ _ (some_or (eqb k 4 || eqb k 5) (wa 3) (wb 3) _ _ (some_or (eqb k 6) (wa 2) (wb 2) _ _ (last (eqb k 7) 3))))
+
+  pub second_alike : (x y : ℕ) → x ≡ second_part ws a k → y ≡ second_part ws b k → x ≡ 0 ↔ y ≡ 0
+  unfolding second_part
+  second_alike x y e g = rw (e, g) (some_or (eqb k 3) (wa 2) (wb 2) _ _ (last (eqb k 6) 3))
+
+  pub body_alike : (x y : ℕ) → x ≡ body_part ws a k → y ≡ body_part ws b k → x ≡ 0 ↔ y ≡ 0
+  unfolding body_part
+  body_alike x y e g = rw (e, g) (some_or (eqb k 4 || eqb k 5) (wa 4) (wb 4) _ _ (last (eqb k 6) 4))
+
+-- three steps, each of which asks for one thing more
+three_steps : (A B C D T U V : Type 0) → (A × T ↔ B) → (B × U ↔ C) → (C × V ↔ D) → (A × (T × U × V)) ↔ D
+three_steps A B C D T U V f g h = (
+  λ o. h.0 (g.0 (f.0 (o.0, o.1.0), o.1.1), o.1.2),
+  λ o.
+      let c = h.1 o in
+      let b = g.1 c.0 in
+      let a = f.1 b.0 in
+      (a.0, (a.1, b.1, c.1)),
+)
+
+module _ {F : Type 0} (R : Bool → ℕ → ℕ → F → F → Type 0) (ws : List ℕ) (a b : ℕ) (f₀ f₃ : F) (p : PartsBy R ws a b f₀ f₃) where
+  abbrev k : ℕ
+  k = expr_word ws a 0
+
+  all_linked : (now : F → List ℕ) → ((c : Bool) (u w : ℕ) (f g : F) → R c u w f g → Linked (now f) (now g) u w) → LinkParts ws a b (now f₀) (now f₃)
+  all_linked now h =
       record {
-        moved = λ F G S. record {
-          refuted = λ z o. (p₁.moved F S).refuted z ((o.0.0, o.0.2), first_from F S o.1.first);
-          down = λ z. absurd (n z);
-          up = λ z. absurd (n z);
-        };
+        moved = λ S.
+            let s = three_steps (Owes S S (now f₀)) (Owes S S (now p.f₁)) (Owes S S (now p.f₂)) (Owes S S (now f₃))
+            (Tied S S (first_part ws a k) (first_part ws b k)) (Tied S S (second_part ws a k) (second_part ws b k)) (Tied S S (body_part ws a k) (body_part ws b k))
+            (link_one R false _ _ (first_alike ws a b k _ _ refl refl) now (h false) _ _ p.first S)
+            (link_one R false _ _ (second_alike ws a b k _ _ refl refl) now (h false) _ _ p.second S)
+            (link_one R true _ _ (body_alike ws a b k _ _ refl refl) now (h true) _ _ p.body S) in
+            (λ o. s.0 (o.0, (o.1.first, o.1.second, o.1.body)), λ o. let n = s.1 o in (n.0, record { first = n.1.0; second = n.1.1; body = n.1.2 }));
       }
 
-  module _ (o₁ : v₁ ≡ 1) (u w : ℕ) (eu : u ≡ second_part ws a kind) (ew : w ≡ second_part ws b kind) (cur₂ owed₂ : List ℕ) (v₂ : ℕ) (p₂ : PutPart cur₁ owed₁ cur₂ owed₂ u w v₂) where
-    second_to : (F S : ℕ → Shape) → Tied F S u w → Tied F S (second_part ws a (expr_word ws a 0)) (second_part ws b (expr_word ws a 0))
-    second_to F S h = subst (λ (k : ℕ). Tied F S (second_part ws a k) (second_part ws b k)) ek (rw (← eu, ← ew) h)
+  pub link_all : (now : F → List ℕ) → ((c : Bool) (u w : ℕ) (f g : F) → R c u w f g → Linked (now f) (now g) u w) → (owed : List ℕ) → now f₃ ≡ owed → LinkParts ws a b (now f₀) owed
+  link_all now h owed e =
+      subst (LinkParts ws a b (now f₀)) e (all_linked now h)
 
-    second_from : (F S : ℕ → Shape) → Tied F S (second_part ws a (expr_word ws a 0)) (second_part ws b (expr_word ws a 0)) → Tied F S u w
-    second_from F S h = rw (eu, ew) (subst (λ (k : ℕ). Tied F S (second_part ws a k) (second_part ws b k)) (sym ek) h)
-
-    on : (F S : ℕ → Shape) → Owes F S cur × Owes S S owed → Tied F S (first_part ws a (expr_word ws a 0)) (first_part ws b (expr_word ws a 0)) → Owes F S cur₁ × Owes S S owed₁
-    on F S o h = (p₁.moved F S).up o₁ (o, first_from F S h)
-
-    pub parts_two : (v₂ ≡ 1 → ⊥) → PutParts ws a b cur next owed cur₂ next owed₂ v₂
-    parts_two n =
-        record {
-          moved = λ F G S. record {
-            refuted = λ z o. (p₂.moved F S).refuted z (on F S (o.0.0, o.0.2) o.1.first, second_from F S o.1.second);
-            down = λ z. absurd (n z);
-            up = λ z. absurd (n z);
-          };
-        }
-
-    module _ (o₂ : v₂ ≡ 1) (f g : ℕ) (ef : f ≡ body_part ws a kind) (eg : g ≡ body_part ws b kind) (next₃ owed₃ : List ℕ) (v₃ : ℕ) (p₃ : PutPart next owed₂ next₃ owed₃ f g v₃) where
-      body_to : (F S : ℕ → Shape) → Tied F S f g → Tied F S (body_part ws a (expr_word ws a 0)) (body_part ws b (expr_word ws a 0))
-      body_to F S h = subst (λ (k : ℕ). Tied F S (body_part ws a k) (body_part ws b k)) ek (rw (← ef, ← eg) h)
-
-      body_from : (F S : ℕ → Shape) → Tied F S (body_part ws a (expr_word ws a 0)) (body_part ws b (expr_word ws a 0)) → Tied F S f g
-      body_from F S h = rw (ef, eg) (subst (λ (k : ℕ). Tied F S (body_part ws a k) (body_part ws b k)) (sym ek) h)
-
-      further : (F S : ℕ → Shape) → Owes F S cur₁ × Owes S S owed₁ → Tied F S (second_part ws a (expr_word ws a 0)) (second_part ws b (expr_word ws a 0))
-          → Owes F S cur₂ × Owes S S owed₂
-      further F S o h = (p₂.moved F S).up o₂ (o, second_from F S h)
-
-      pub parts_three : PutParts ws a b cur next owed cur₂ next₃ owed₃ v₃
-      parts_three =
-          record {
-            moved = λ F G S. record {
-              refuted = λ z o.
-                  let q = further F S (on F S (o.0.0, o.0.2) o.1.first) o.1.second in
-                  (p₃.moved G S).refuted z ((o.0.1, q.1), body_from G S o.1.body);
-              down = λ z o.
-                  let q₃ = (p₃.moved G S).down z (o.1, o.2) in
-                  let q₂ = (p₂.moved F S).down o₂ (o.0, q₃.0.1) in
-                  let q₁ = (p₁.moved F S).down o₁ q₂.0 in
-                  ((q₁.0.0, q₃.0.0, q₁.0.1), record { first = first_to_lem F S q₁.1; second = second_to F S q₂.1; body = body_to G S q₃.1 });
-              up = λ z o.
-                  let q₂ = further F S (on F S (o.0.0, o.0.2) o.1.first) o.1.second in
-                  let q₃ = (p₃.moved G S).up z ((o.0.1, q₂.1), body_from G S o.1.body) in
-                  (q₂.0, q₃.0, q₃.1);
-            };
-          }
-
--- the same with one array
-module _ (ws : List ℕ) (a b kind : ℕ) (ek : kind ≡ expr_word ws a 0) (owed : List ℕ) (x y : ℕ) (ex : x ≡ first_part ws a kind) (ey : y ≡ first_part ws b kind)
-    (owed₁ : List ℕ) (v₁ : ℕ) (p₁ : LinkPart owed owed₁ x y v₁) where
-  first_of : (S : ℕ → Shape) → Tied S S (first_part ws a (expr_word ws a 0)) (first_part ws b (expr_word ws a 0)) → Tied S S x y
-  first_of S h = rw (ex, ey) (subst (λ (k : ℕ). Tied S S (first_part ws a k) (first_part ws b k)) (sym ek) h)
-
-  pub links_one : (v₁ ≡ 1 → ⊥) → LinkParts ws a b owed owed₁ v₁
-  links_one n =
+  all_put : (cur next owed : F → List ℕ)
+      → ((u w : ℕ) (f g : F) → R false u w f g → Put (cur f) (owed f) (cur g) (owed g) u w × (next g ≡ next f))
+      → ((u w : ℕ) (f g : F) → R true u w f g → Put (next f) (owed f) (next g) (owed g) u w × (cur g ≡ cur f))
+      → PutParts ws a b (cur f₀) (next f₀) (owed f₀) (cur f₃) (next f₃) (owed f₃)
+  all_put cur next owed h l =
       record {
-        moved = λ S. record {
-          refuted = λ z o. (p₁.moved S).refuted z (o.0, first_of S o.1.first);
-          down = λ z. absurd (n z);
-          up = λ z. absurd (n z);
-        };
+        moved = λ G H S.
+            let now : F → Type 0 = λ f. Owes G S (cur f) × Owes H S (next f) × Owes S S (owed f) in
+            let body = put_one R true _ _ (body_alike ws a b k _ _ refl refl) next cur owed l _ _ p.body H G S in
+            let s = three_steps (now f₀) (now p.f₁) (now p.f₂) (now f₃)
+            (Tied G S (first_part ws a k) (first_part ws b k)) (Tied G S (second_part ws a k) (second_part ws b k)) (Tied H S (body_part ws a k) (body_part ws b k))
+            (put_one R false _ _ (first_alike ws a b k _ _ refl refl) cur next owed h _ _ p.first G H S)
+            (put_one R false _ _ (second_alike ws a b k _ _ refl refl) cur next owed h _ _ p.second G H S)
+            (λ o. let n = body.0 ((o.0.1, o.0.0, o.0.2), o.1) in (n.1, n.0, n.2), λ o. let n = body.1 (o.1, o.0, o.2) in ((n.0.1, n.0.0, n.0.2), n.1)) in
+            (λ o. s.0 (o.0, (o.1.first, o.1.second, o.1.body)), λ o. let n = s.1 o in (n.0, record { first = n.1.0; second = n.1.1; body = n.1.2 }));
       }
 
-  module _ (o₁ : v₁ ≡ 1) (u w : ℕ) (eu : u ≡ second_part ws a kind) (ew : w ≡ second_part ws b kind) (owed₂ : List ℕ) (v₂ : ℕ) (p₂ : LinkPart owed₁ owed₂ u w v₂) where
-    second_of : (S : ℕ → Shape) → Tied S S (second_part ws a (expr_word ws a 0)) (second_part ws b (expr_word ws a 0)) → Tied S S u w
-    second_of S h = rw (eu, ew) (subst (λ (k : ℕ). Tied S S (second_part ws a k) (second_part ws b k)) (sym ek) h)
-
-    pub links_two : (v₂ ≡ 1 → ⊥) → LinkParts ws a b owed owed₂ v₂
-    links_two n =
-        record {
-          moved = λ S. record {
-            refuted = λ z o. (p₂.moved S).refuted z ((p₁.moved S).up o₁ (o.0, first_of S o.1.first), second_of S o.1.second);
-            down = λ z. absurd (n z);
-            up = λ z. absurd (n z);
-          };
-        }
-
-    module _ (o₂ : v₂ ≡ 1) (f g : ℕ) (ef : f ≡ body_part ws a kind) (eg : g ≡ body_part ws b kind) (owed₃ : List ℕ) (v₃ : ℕ) (p₃ : LinkPart owed₂ owed₃ f g v₃) where
-      body_of : (S : ℕ → Shape) → Tied S S (body_part ws a (expr_word ws a 0)) (body_part ws b (expr_word ws a 0)) → Tied S S f g
-      body_of S h = rw (ef, eg) (subst (λ (k : ℕ). Tied S S (body_part ws a k) (body_part ws b k)) (sym ek) h)
-
-      all_on : (S : ℕ → Shape) → Owes S S owed → PartsTied S S S ws a b → Owes S S owed₂
-      all_on S o h = (p₂.moved S).up o₂ ((p₁.moved S).up o₁ (o, first_of S h.first), second_of S h.second)
-
-      pub links_three : LinkParts ws a b owed owed₃ v₃
-      links_three =
-          record {
-            moved = λ S. record {
-              refuted = λ z o. (p₃.moved S).refuted z (all_on S o.0 o.1, body_of S o.1.body);
-              down = λ z o.
-                  let q₃ = (p₃.moved S).down z o in
-                  let q₂ = (p₂.moved S).down o₂ q₃.0 in
-                  let q₁ = (p₁.moved S).down o₁ q₂.0 in (
-                    q₁.0,
-                    record {
-                      first = subst (λ (k : ℕ). Tied S S (first_part ws a k) (first_part ws b k)) ek (rw (← ex, ← ey) q₁.1);
-                      second = subst (λ (k : ℕ). Tied S S (second_part ws a k) (second_part ws b k)) ek (rw (← eu, ← ew) q₂.1);
-                      body = subst (λ (k : ℕ). Tied S S (body_part ws a k) (body_part ws b k)) ek (rw (← ef, ← eg) q₃.1);
-                    },
-                  );
-              up = λ z o. (p₃.moved S).up z (all_on S o.0 o.1, body_of S o.1.body);
-            };
-          }
+  pub put_all : (cur next owed : F → List ℕ)
+      → ((u w : ℕ) (f g : F) → R false u w f g → Put (cur f) (owed f) (cur g) (owed g) u w × (next g ≡ next f))
+      → ((u w : ℕ) (f g : F) → R true u w f g → Put (next f) (owed f) (next g) (owed g) u w × (cur g ≡ cur f))
+      → (cur' next' owed' : List ℕ) → cur f₃ ≡ cur' → next f₃ ≡ next' → owed f₃ ≡ owed' → PutParts ws a b (cur f₀) (next f₀) (owed f₀) cur' next' owed'
+  put_all cur next owed h l cur' next' owed' ec en eo = rw (← ec, ← en, ← eo) (all_put cur next owed h l)

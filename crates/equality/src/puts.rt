@@ -1,92 +1,78 @@
-// Parts of two rows that have to be equal: 0 where one is not there and the other is, 1 where they are put aside, 2 where there is no room.
-ghost use Rattle.pool.specs.Areas.{WordsOf};
-ghost use Rattle.equality.specs.Sweep.{PutPart, LinkPart, PutParts, LinkParts};
+// The parts of two rows of one kind, which have to be equal, put aside: false where there is no room for them.
+ghost use Rattle.std.specs.Prelude.{◌≡◌, true, ◌↔◌};
+ghost use Rattle.equality.specs.Sweep.{PartBy, PartsBy, PutParts, LinkParts};
 
 use links::{link, put};
 use occurrence::parts;
-use pool::fields;
-use pool::tables::Tables;
+use pool::fields::EXPR_KIND;
+use pool::words::Words;
 
-fn put_part(array: &mut [u32], owed: &mut [u32], x: usize, y: usize) -> usize
-    ensures { PutPart array.old owed.old array.new owed.new x y result }
+// One part of each, or of neither: `put` is told whether they stand under one binder more.
+fn put_part<F: FnMut(bool, usize, usize) -> bool>(
+    put: &mut F,
+    below: bool,
+    x: usize,
+    y: usize,
+) -> bool
+    requires callable { F.IsAlwaysCallable put.old }
+    requires alike { x ≡ 0 ↔ y ≡ 0 }
+    ensures callable { F.IsAlwaysCallable put.new }
+    ensures by { result ≡ true → PartBy (λ b u w f g. F.step f b u w true g) below x y put.old put.new }
 {
-    if x == 0 {
-        if y == 0 {
-            return 1;
-        }
-        return 0;
-    }
-    if y == 0 {
-        return 0;
-    }
-    if put(array, owed, x - 1, y - 1) {
-        return 1;
-    }
-    2
+    x == 0 || put(below, x - 1, y - 1)
 }
 
-fn link_part(owed: &mut [u32], x: usize, y: usize) -> usize
-    ensures { LinkPart owed.old owed.new x y result }
+// All parts of rows a and b, of a's kind.
+fn each_part<F: FnMut(bool, usize, usize) -> bool>(
+    words: &Words<'_>,
+    a: usize,
+    b: usize,
+    put: &mut F,
+) -> bool
+    requires { F.IsAlwaysCallable put.old }
+    ensures { result ≡ true → PartsBy (λ b u w f g. F.step f b u w true g) words.now.words.now a b put.old put.new }
 {
-    if x == 0 {
-        if y == 0 {
-            return 1;
-        }
-        return 0;
+    let kind = words.expr(a, EXPR_KIND);
+    let first_a = parts::first_part(words, a, kind);
+    let first_b = parts::first_part(words, b, kind);
+    if !put_part(put, false, first_a, first_b) {
+        return false;
     }
-    if y == 0 {
-        return 0;
+    let second_a = parts::second_part(words, a, kind);
+    let second_b = parts::second_part(words, b, kind);
+    if !put_part(put, false, second_a, second_b) {
+        return false;
     }
-    if link(owed, x - 1, y - 1) {
-        return 1;
-    }
-    2
+    let body_a = parts::body_part(words, a, kind);
+    let body_b = parts::body_part(words, b, kind);
+    put_part(put, true, body_a, body_b)
 }
 
-// The parts of rows a and b: those under one binder more go into the second array.
+// What stands under one binder more goes into the second array.
 pub fn put_parts(
-    words: &[u32],
-    t: Tables,
+    words: &Words<'_>,
     cur: &mut [u32],
     next: &mut [u32],
     owed: &mut [u32],
     a: usize,
     b: usize,
-) -> usize
-    requires { WordsOf words.now t }
-    ensures { PutParts words.now a b cur.old next.old owed.old
-        cur.new next.new owed.new result }
+) -> bool
+    ensures { result ≡ true → PutParts words.now.words.now a b cur.old next.old owed.old
+        cur.new next.new owed.new }
 {
-    let kind = fields::expr_kind(words, t, a);
-    let first = parts::first_part(words, t, a, kind);
-    let v = put_part(cur, owed, first, parts::first_part(words, t, b, kind));
-    if v != 1 {
-        return v;
-    }
-    let second = parts::second_part(words, t, a, kind);
-    let v = put_part(cur, owed, second, parts::second_part(words, t, b, kind));
-    if v != 1 {
-        return v;
-    }
-    let body = parts::body_part(words, t, a, kind);
-    put_part(next, owed, body, parts::body_part(words, t, b, kind))
+    let mut aside = |below: bool, x: usize, y: usize| {
+        if below {
+            put(next, owed, x, y)
+        } else {
+            put(cur, owed, x, y)
+        }
+    };
+    each_part(words, a, b, &mut aside)
 }
 
-pub fn link_parts(words: &[u32], t: Tables, owed: &mut [u32], a: usize, b: usize) -> usize
-    requires { WordsOf words.now t }
-    ensures { LinkParts words.now a b owed.old owed.new result }
+pub fn link_parts(words: &Words<'_>, owed: &mut [u32], a: usize, b: usize) -> bool
+    ensures { result ≡ true → LinkParts words.now.words.now a b owed.old owed.new }
 {
-    let kind = fields::expr_kind(words, t, a);
-    let first = parts::first_part(words, t, a, kind);
-    let v = link_part(owed, first, parts::first_part(words, t, b, kind));
-    if v != 1 {
-        return v;
-    }
-    let second = parts::second_part(words, t, a, kind);
-    let v = link_part(owed, second, parts::second_part(words, t, b, kind));
-    if v != 1 {
-        return v;
-    }
-    let body = parts::body_part(words, t, a, kind);
-    link_part(owed, body, parts::body_part(words, t, b, kind))
+    let mut aside = |_: bool, x: usize, y: usize| link(owed, x, y);
+    each_part(words, a, b, &mut aside)
 }

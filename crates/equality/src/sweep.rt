@@ -1,254 +1,166 @@
 // The sweep by levels: what a row lifted from c on has to be stands in an array, what it has to be under one binder more in a second, and
-// what rows have to be as they are in a third. Each row of a level is met once.
-ghost use Rattle.std.specs.Prelude.{◌≡◌, ◌+◌, ◌<◌, ◌≤◌};
-ghost use Rattle.pool.specs.Areas.{lent};
+// what rows have to be as they are in a third. Each row of a level is met once. An answer is whether what is owed is so, None where
+// there is no room.
+ghost use Rattle.std.specs.Prelude.{◌+◌, ◌<◌, ◌≤◌};
+ghost use Rattle.pool.specs.Views.{lent};
 ghost use Rattle.pool.specs.Tables.{E};
-ghost use Rattle.pool.specs.Ready.{Ready};
 ghost use Rattle.links.specs.Links.{Owes, Clear, Stepped, Settled};
 ghost use Rattle.occurrence.specs.Asked.{Told};
 ghost use Rattle.compare.specs.Equal.{trees_same};
-ghost use Rattle.equality.specs.Sweep.{tree_at, Owed, Moved, Ended, Level};
+ghost use Rattle.equality.specs.Sweep.{tree_at, Owed, Moved, Level};
 
 use super::puts::{link_parts, put_parts};
-use basics::bools::both;
-use basics::numbers::larger;
 use compare::trees::agree;
 use links::{highest, is_clear, put, take};
-use pool::fields;
-use pool::tables::Tables;
+use pool::checked::CheckedPool;
+use pool::fields::EXPR_DEPTH;
 
 // What row a, lifted from c on, has to be.
 fn lifted_row(
-    bytes: &[u8],
-    names: &[u32],
-    words: &[u32],
-    t: Tables,
+    pool: &CheckedPool<'_>,
     cur: &mut [u32],
     next: &mut [u32],
     owed: &mut [u32],
     d: usize,
     a: usize,
     c: usize,
-) -> usize
-    requires { (Ready bytes.now names.now words.now t) × (a < E words.now) }
-    ensures { Moved (Owed (lent bytes names words) d c cur.old next.old owed.old)
-        (Owed (lent bytes names words) d c cur.new next.new owed.new) result }
+) -> Option<bool>
+    requires { a < E (lent pool.now).words }
+    ensures { Moved (Owed (lent pool.now) d c cur.old next.old owed.old)
+        (Owed (lent pool.now) d c cur.new next.new owed.new) result }
 {
-    let m = take(cur, a);
-    if m == 0 {
-        return 1;
+    let Some(m) = take(cur, a) else {
+        return Some(true);
+    };
+    if pool.words.tables.exprs <= m {
+        return None;
     }
-    if t.exprs < m {
-        return 2;
+    match agree(pool, d, a, m, c) {
+        None => put_parts(&pool.words, cur, next, owed, a, m).then_some(true),
+        quick => quick,
     }
-    let quick = agree(bytes, names, words, t, d, a, m - 1, c);
-    if quick < 2 {
-        return quick;
-    }
-    put_parts(words, t, cur, next, owed, a, m - 1)
 }
 
-// The rows below n of one level.
+// The rows below n of one level. The arrays are lent one by one and not as one struct, since the first two take turns.
 fn lifted_rows(
-    bytes: &[u8],
-    names: &[u32],
-    words: &[u32],
-    t: Tables,
+    pool: &CheckedPool<'_>,
     cur: &mut [u32],
     next: &mut [u32],
     owed: &mut [u32],
     d: usize,
     n: usize,
     c: usize,
-) -> usize
-    requires { (Ready bytes.now names.now words.now t) × (n ≤ E words.now) }
-    ensures { Level (lent bytes names words) d c cur.old next.old owed.old
+) -> Option<bool>
+    requires { n ≤ E (lent pool.now).words }
+    ensures { Level (lent pool.now) d c cur.old next.old owed.old
         cur.new next.new owed.new result }
 {
-    let mut a = highest(cur, n);
-    while 0 < a {
-        let v = lifted_row(bytes, names, words, t, cur, next, owed, d, a - 1, c);
-        if v != 1 {
-            return v;
+    let mut below = n;
+    while let Some(a) = highest(cur, below) {
+        let row = lifted_row(pool, cur, next, owed, d, a, c);
+        if row != Some(true) {
+            return row;
         }
-        a = highest(cur, a - 1);
+        below = a;
     }
-    if is_clear(cur) {
-        return 1;
-    }
-    2
+    is_clear(cur).then_some(true)
 }
 
 // Two levels at a time, since the arrays take turns, while something is owed, and as many as the trees are deep.
 fn levels(
-    bytes: &[u8],
-    names: &[u32],
-    words: &[u32],
-    t: Tables,
+    pool: &CheckedPool<'_>,
     cur: &mut [u32],
     next: &mut [u32],
     owed: &mut [u32],
     d: usize,
     n: usize,
     depth: usize,
-) -> usize
-    requires { (Ready bytes.now names.now words.now t) × (n ≤ E words.now) × (depth < 4294967296) × Clear next.old }
-    ensures { Moved (Owed (lent bytes names words) d 0 cur.old next.old owed.old)
-        (Owes (tree_at (lent bytes names words)) (tree_at (lent bytes names words)) owed.new) result }
+) -> Option<bool>
+    requires { (n ≤ E (lent pool.now).words) × (depth < 4294967296) × Clear next.old }
+    ensures { Moved (Owed (lent pool.now) d 0 cur.old next.old owed.old)
+        (Owes (tree_at (lent pool.now)) (tree_at (lent pool.now)) owed.new) result }
 {
     let mut c = 0;
-    while both(c < depth, 0 < highest(cur, n)) {
-        let v = lifted_rows(bytes, names, words, t, cur, next, owed, d, n, c);
-        if v != 1 {
-            return v;
+    while c < depth && highest(cur, n).is_some() {
+        let level = lifted_rows(pool, cur, next, owed, d, n, c);
+        if level != Some(true) {
+            return level;
         }
-        let w = lifted_rows(bytes, names, words, t, next, cur, owed, d, n, c + 1);
-        if w != 1 {
-            return w;
+        let deeper = lifted_rows(pool, next, cur, owed, d, n, c + 1);
+        if deeper != Some(true) {
+            return deeper;
         }
         c += 2;
     }
-    if is_clear(cur) {
-        return 1;
-    }
-    2
+    is_clear(cur).then_some(true)
 }
 
-// What row x has to be as it is.
-fn plain_row(
-    bytes: &[u8],
-    names: &[u32],
-    words: &[u32],
-    t: Tables,
-    owed: &mut [u32],
-    x: usize,
-) -> usize
-    requires { (Ready bytes.now names.now words.now t) × (x < E words.now) }
-    ensures { Stepped (tree_at (lent bytes names words)) owed.old owed.new result }
+// What row x has to be as it is. This and the pass below are not one with those of a level: a row is taken from the array that its parts go
+// to, so that the three arrays there cannot be lent here.
+fn plain_row(pool: &CheckedPool<'_>, owed: &mut [u32], x: usize) -> Option<bool>
+    requires { x < E (lent pool.now).words }
+    ensures { Stepped (tree_at (lent pool.now)) owed.old owed.new result }
 {
-    let m = take(owed, x);
-    if m == 0 {
-        return 1;
+    let Some(m) = take(owed, x) else {
+        return Some(true);
+    };
+    if pool.words.tables.exprs <= m {
+        return None;
     }
-    if t.exprs < m {
-        return 2;
+    match agree(pool, 0, x, m, 0) {
+        None => link_parts(&pool.words, owed, x, m).then_some(true),
+        quick => quick,
     }
-    let quick = agree(bytes, names, words, t, 0, x, m - 1, 0);
-    if quick < 2 {
-        return quick;
-    }
-    link_parts(words, t, owed, x, m - 1)
 }
 
-fn plain_rows(
-    bytes: &[u8],
-    names: &[u32],
-    words: &[u32],
-    t: Tables,
-    owed: &mut [u32],
-    n: usize,
-) -> usize
-    requires { (Ready bytes.now names.now words.now t) × (n ≤ E words.now) }
-    ensures { Settled (tree_at (lent bytes names words)) owed.old result }
+fn plain_rows(pool: &CheckedPool<'_>, owed: &mut [u32], n: usize) -> Option<bool>
+    requires { n ≤ E (lent pool.now).words }
+    ensures { Settled (tree_at (lent pool.now)) owed.old result }
 {
-    let mut x = highest(owed, n);
-    while 0 < x {
-        let v = plain_row(bytes, names, words, t, owed, x - 1);
-        if v != 1 {
-            return v;
+    let mut below = n;
+    while let Some(x) = highest(owed, below) {
+        let row = plain_row(pool, owed, x);
+        if row != Some(true) {
+            return row;
         }
-        x = highest(owed, x - 1);
+        below = x;
     }
-    if is_clear(owed) {
-        return 1;
-    }
-    2
+    is_clear(owed).then_some(true)
 }
 
 fn swept(
-    bytes: &[u8],
-    names: &[u32],
-    words: &[u32],
-    t: Tables,
+    pool: &CheckedPool<'_>,
     cur: &mut [u32],
     next: &mut [u32],
     owed: &mut [u32],
     a: usize,
     b: usize,
     d: usize,
-) -> usize
-    requires { (Ready bytes.now names.now words.now t) × (a < E words.now) × (b < E words.now)
+) -> Option<bool>
+    requires { (a < E (lent pool.now).words) × (b < E (lent pool.now).words)
         × Clear cur.old × Clear next.old × Clear owed.old }
-    ensures { Told (trees_same (lent bytes names words) d 0 a b) result }
+    ensures { Told (trees_same (lent pool.now) d 0 a b) result }
 {
     if !put(cur, owed, a, b) {
-        return 2;
+        return None;
     }
-    let depth = fields::expr_depth(words, t, a);
-    let v = levels(bytes, names, words, t, cur, next, owed, d, a + 1, depth);
-    if v != 1 {
-        return v;
+    let depth = pool.words.expr(a, EXPR_DEPTH);
+    let lifted = levels(pool, cur, next, owed, d, a + 1, depth);
+    if lifted != Some(true) {
+        return lifted;
     }
-    plain_rows(bytes, names, words, t, owed, larger(a, b) + 1)
+    plain_rows(pool, owed, a.max(b) + 1)
 }
 
-// The arrays are as long as the pool asks, so that a small one clears little.
-pub fn few(
-    bytes: &[u8],
-    names: &[u32],
-    words: &[u32],
-    t: Tables,
-    a: usize,
-    b: usize,
-    d: usize,
-) -> usize
-    requires { (Ready bytes.now names.now words.now t) × (a < E words.now) × (b < E words.now) }
-    ensures { Told (trees_same (lent bytes names words) d 0 a b) result }
+// Over arrays of N rows: they are as long as the pool asks, so that a small one clears little. Not inlined, so that they stand in no other
+// frame.
+#[inline(never)]
+pub fn sized<const N: usize>(pool: &CheckedPool<'_>, a: usize, b: usize, d: usize) -> Option<bool>
+    requires { (a < E (lent pool.now).words) × (b < E (lent pool.now).words) × (N ≤ 65536) }
+    ensures { Told (trees_same (lent pool.now) d 0 a b) result }
 {
-    let mut cur = [0u32; 512];
-    let mut next = [0u32; 512];
-    let mut owed = [0u32; 512];
-    swept(
-        bytes, names, words, t, &mut cur, &mut next, &mut owed, a, b, d,
-    )
-}
-
-pub fn more(
-    bytes: &[u8],
-    names: &[u32],
-    words: &[u32],
-    t: Tables,
-    a: usize,
-    b: usize,
-    d: usize,
-) -> usize
-    requires { (Ready bytes.now names.now words.now t) × (a < E words.now) × (b < E words.now) }
-    ensures { Told (trees_same (lent bytes names words) d 0 a b) result }
-{
-    let mut cur = [0u32; 8192];
-    let mut next = [0u32; 8192];
-    let mut owed = [0u32; 8192];
-    swept(
-        bytes, names, words, t, &mut cur, &mut next, &mut owed, a, b, d,
-    )
-}
-
-pub fn many(
-    bytes: &[u8],
-    names: &[u32],
-    words: &[u32],
-    t: Tables,
-    a: usize,
-    b: usize,
-    d: usize,
-) -> usize
-    requires { (Ready bytes.now names.now words.now t) × (a < E words.now) × (b < E words.now) }
-    ensures { Told (trees_same (lent bytes names words) d 0 a b) result }
-{
-    let mut cur = [0u32; 65536];
-    let mut next = [0u32; 65536];
-    let mut owed = [0u32; 65536];
-    swept(
-        bytes, names, words, t, &mut cur, &mut next, &mut owed, a, b, d,
-    )
+    let mut cur = [0u32; N];
+    let mut next = [0u32; N];
+    let mut owed = [0u32; N];
+    swept(pool, &mut cur, &mut next, &mut owed, a, b, d)
 }

@@ -1,35 +1,61 @@
--- Laws of the tests of an expression row: its unused words, and its kind where it is none of the ten.
-use Prim.Native.Nat.{ℕ, zero, suc}
-use mathlib.Core.List.{List, [], ◌∷◌}
-use mathlib.Core.Path.{◌≡◌, refl, sym, ap, ◌∙◌}
-use lib.Dec.{eqb}
-use Rattle.basics.proofs.Booleans.{and-true}
-use Rattle.pool.specs.Tables.{expr_word}
-use Rattle.pool.specs.Kinds.{expr_kind, noExprᵏ}
-use Rattle.pool.specs.Rules.{unused}
-use Rattle.expr_check.specs.declared.exprs.Fields.{Fields}
-use Rattle.expr_check.specs.Fields.{fields_of}
+-- Laws of the tests of an expression row: its unused words, its kind where it is none of the ten, and what is asked of it.
+use Prim.Native.Nat.{ℕ, zero, suc, ◌≤◌}
+use native.Mathlib.Omega.{arith}
+use mathlib.Core.Bool.{Bool, true, false, ◌&&◌}
+use mathlib.Core.List.{List, [], ◌∷◌, map}
+use mathlib.Core.Path.{◌≡◌, refl, ap}
+use lib.Dec.{eqb, leb}
+use Rattle.std.specs.Prelude.{None, Some}
+use Rattle.std.specs.List.{list_all}
+use Rattle.pool.specs.Tables.{Pool, expr_word}
+use Rattle.pool.specs.Kinds.{ExprKind, expr_kind, noExprᵏ}
+use Rattle.pool.specs.Rules.{unused, expr_fields_ok, depth_by, loose_by, expr_ok}
+use Rattle.expr_check.specs.declared.kinds.Asked.{Asked}
+use Rattle.expr_check.specs.Fields.{asked_by}
 
-pub unused-one : (a : ℕ) → eqb a 0 ≡ unused (a ∷ [])
+pub unused_all : (f : ℕ → ℕ) (ks : List ℕ) → list_all (λ k. eqb (f k) 0) ks ≡ unused (map f ks)
 unfolding unused
-unused-one a = sym (and-true (eqb a 0))
-
--- a row's kind, read with its other words
-pub kind_is : (ws : List ℕ) (r k : ℕ) (f : Fields) → f ≡ fields_of ws r → f.kind ≡ k → expr_word ws r 0 ≡ k
-kind_is ws r k f e q = sym (ap (λ (g : Fields). g.kind) e) ∙ q
+unused_all f [] = refl
+unused_all f (k ∷ ks) = ap (λ (b : Bool). eqb (f k) 0 && b) (unused_all f ks)
 
 -- ten and above
-pub expr_none : (k : ℕ) → (k ≡ 0 → ⊥) → (k ≡ 1 → ⊥) → (k ≡ 2 → ⊥) → (k ≡ 3 → ⊥) → (k ≡ 4 → ⊥) → (k ≡ 5 → ⊥) → (k ≡ 6 → ⊥)
-    → (k ≡ 7 → ⊥) → (k ≡ 8 → ⊥) → (k ≡ 9 → ⊥) → expr_kind k ≡ noExprᵏ
+pub expr_none : (k : ℕ) → 10 ≤ k → expr_kind k ≡ noExprᵏ
 unfolding expr_kind
-expr_none zero a b c d e f g h i j = absurd (a refl)
-expr_none (suc zero) a b c d e f g h i j = absurd (b refl)
-expr_none (suc (suc zero)) a b c d e f g h i j = absurd (c refl)
-expr_none (suc (suc (suc zero))) a b c d e f g h i j = absurd (d refl)
-expr_none (suc (suc (suc (suc zero)))) a b c d e f g h i j = absurd (e refl)
-expr_none (suc (suc (suc (suc (suc zero))))) a b c d e f g h i j = absurd (f refl)
-expr_none (suc (suc (suc (suc (suc (suc zero)))))) a b c d e f g h i j = absurd (g refl)
-expr_none (suc (suc (suc (suc (suc (suc (suc zero))))))) a b c d e f g h i j = absurd (h refl)
-expr_none (suc (suc (suc (suc (suc (suc (suc (suc zero)))))))) a b c d e f g h i j = absurd (i refl)
-expr_none (suc (suc (suc (suc (suc (suc (suc (suc (suc zero))))))))) a b c d e f g h i j = absurd (j refl)
-expr_none (suc (suc (suc (suc (suc (suc (suc (suc (suc (suc k)))))))))) a b c d e f g h i j = refl
+expr_none zero h = absurd (omega arith)
+expr_none (suc zero) h = absurd (omega arith)
+expr_none (suc (suc zero)) h = absurd (omega arith)
+expr_none (suc (suc (suc zero))) h = absurd (omega arith)
+expr_none (suc (suc (suc (suc zero)))) h = absurd (omega arith)
+expr_none (suc (suc (suc (suc (suc zero))))) h = absurd (omega arith)
+expr_none (suc (suc (suc (suc (suc (suc zero)))))) h = absurd (omega arith)
+expr_none (suc (suc (suc (suc (suc (suc (suc zero))))))) h = absurd (omega arith)
+expr_none (suc (suc (suc (suc (suc (suc (suc (suc zero)))))))) h = absurd (omega arith)
+expr_none (suc (suc (suc (suc (suc (suc (suc (suc (suc zero))))))))) h = absurd (omega arith)
+expr_none (suc (suc (suc (suc (suc (suc (suc (suc (suc (suc k)))))))))) h = refl
+
+-- what is asked of a row decides on it
+module _ (p : Pool) (r : ℕ) where
+  abbrev kind : ExprKind
+  kind = expr_kind (expr_word p.words r 0)
+
+  abbrev as_asked : Asked → Bool
+  as_asked w = eqb (expr_word p.words r 6) w.depth && (leb (expr_word p.words r 6) 256 && eqb (expr_word p.words r 7) w.loose)
+
+  pub nothing_asked : None ≡ asked_by p r kind → false ≡ expr_ok p r
+  unfolding expr_ok
+  nothing_asked e = by (expr_fields_ok p r kind) refl
+    where
+      by : (b : Bool) → expr_fields_ok p r kind ≡ b → false ≡ expr_ok p r
+      by false q = rw q
+      by true q = let d = rw q at e in cc
+
+  pub so_asked : (w : Asked) → Some w ≡ asked_by p r kind → as_asked w ≡ expr_ok p r
+  unfolding expr_ok
+  so_asked w e = by (expr_fields_ok p r kind) refl
+    where
+      by : (b : Bool) → expr_fields_ok p r kind ≡ b → as_asked w ≡ expr_ok p r
+      by false q = let d = rw q at e in cc
+      by true q =
+          let d = rw q at e in
+          let g : w ≡ record { depth = depth_by p r kind; loose = loose_by p r kind } = cc in
+          rw (q, g)

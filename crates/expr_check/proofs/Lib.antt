@@ -1,2 +1,2 @@
 pub mod Decide
-pub mod MarkLaws
+pub mod ScanLaws

@@ -1,27 +1,19 @@
--- The words of an expression row, as the code reads them.
-use Rattle.std.specs.Prelude.{ℕ, Bool, List}
+-- What is asked of an expression row, by the rules.
+use Rattle.std.specs.Prelude.{ℕ, ◌-◌, Bool, List, map, Option}
+use Rattle.std.specs.Bool.{then_some}
+use Rattle.std.specs.List.{range_with_len}
 use Rattle.pool.specs.Tables.{Pool, expr_word}
 use Rattle.pool.specs.Kinds.{ExprKind}
 use Rattle.pool.specs.Rules.{expr_fields_ok, depth_by, loose_by}
-use Rattle.expr_check.specs.declared.exprs.Fields.{Fields}
-use Rattle.expr_check.specs.declared.exprs.Asked.{Asked}
+use Rattle.expr_check.specs.declared.kinds.Asked.{Asked}
 
-abbrev pub fields_of : List ℕ → ℕ → Fields
-fields_of ws r =
-    record {
-      kind = expr_word ws r 0;
-      a = expr_word ws r 1;
-      b = expr_word ws r 2;
-      c = expr_word ws r 3;
-      d = expr_word ws r 4;
-      e = expr_word ws r 5;
-      depth = expr_word ws r 6;
-      loose = expr_word ws r 7;
-    }
+-- the fields of row r from number `first` on
+abbrev pub words_from : List ℕ → ℕ → ℕ → List ℕ
+words_from ws r first = map (expr_word ws r) (range_with_len first (6 - first))
 
--- what is asked of a row, by the rules
-abbrev pub asked : Bool → ℕ → ℕ → Asked
-asked right depth loose = record { right = right; depth = depth; loose = loose }
+-- the depth and the loose word, where the fields are right
+abbrev pub asked : Bool → ℕ → ℕ → Option Asked
+asked right depth loose = then_some right (record { depth = depth; loose = loose })
 
-abbrev pub asked_by : Pool → ℕ → ExprKind → Asked
+abbrev pub asked_by : Pool → ℕ → ExprKind → Option Asked
 asked_by p r k = asked (expr_fields_ok p r k) (depth_by p r k) (loose_by p r k)

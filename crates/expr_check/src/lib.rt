@@ -2,4 +2,4 @@
 #![tactic(auto)]
 
 pub mod exprs;
-mod unused;
+mod kinds;

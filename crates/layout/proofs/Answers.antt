@@ -4,6 +4,7 @@ use native.Mathlib.Omega.{arith}
 use native.Mathlib.Nat.{add-zero, zero-add}
 use mathlib.Core.Bool.{Bool, true, false, cond}
 use mathlib.Core.List.{List, [], ◌∷◌}
+use Rattle.std.proofs.Common.{Result, Ok, Err, MutBor}
 use mathlib.Core.Path.{◌≡◌, refl, sym, ap, ap₂, ◌∙◌, subst}
 use lib.ListN.{length}
 use lib.Dec.{ltb}
@@ -12,11 +13,10 @@ use Rattle.document.specs.Rows.{fault, counts_ok, Accepted}
 use Rattle.document.proofs.Faults.{fault_bound, accepted_counts, accepted_sound}
 use Rattle.layout.specs.declared.cursor.Cursor.{Cursor}
 use Rattle.layout.specs.declared.Counts.{Counts}
-use Rattle.layout.specs.declared.Laid.{Laid}
-use Rattle.layout.specs.declared.Laid.TheVariants.{Done, Listing}
-use Rattle.layout.specs.declared.Laid.TheVariants as laids
-use Rattle.layout.specs.declared.Admission.{Admission}
-use Rattle.layout.specs.declared.Admission.TheVariants as admissions
+use Rattle.layout.specs.declared.LayoutError.{LayoutError}
+use Rattle.layout.specs.declared.LayoutError.TheVariants.{Document, Width, Listing}
+use Rattle.layout.specs.declared.listing.Listing as listings
+use Rattle.layout.specs.Frames.{Begins, LaysOut}
 use Rattle.layout.specs.Layout.{Piece, textᵖ, blankᵖ, newlineᵖ, testᵖ, after, run, start, pieces}
 use Rattle.layout.specs.Listing.{bytes_of, broken_places, lines, longest_row, tests_in}
 use Rattle.layout.specs.Call.{counts_of, untouched, listed, doc_of, outcome}
@@ -53,15 +53,6 @@ run_longest w c n (blankᵖ k ∷ ps) e h =
 run_longest w c n (newlineᵖ b k ∷ ps) e h =
     let r = run_longest w (after w c (newlineᵖ b k)) k ps (omega arith) (omega arith) in let g = longest_least k ps in omega arith
 run_longest w c n (testᵖ b ∷ ps) e h = run_longest w (after w c (testᵖ b)) n ps e h
-
--- ---- `report`
-
-module _ (v : Cursor) (count total : ℕ) (l : List ℕ) where
-  pub reported_short : length l < v.position → Listing ≡ reported v count total l
-  reported_short h = sym (rw (lt-ltb (length l) v.position h))
-
-  pub reported-done : v.position ≤ length l → Done (counted v count total) ≡ reported v count total l
-  reported-done h = sym (rw (le-ltb (length l) v.position h))
 
 -- ---- `layout_accepted`
 
@@ -112,34 +103,53 @@ module _ (width : ℕ) (ps : List Piece) (v : Cursor) (l l' : List ℕ) (emitted
       let t : v.tests ≡ tests_in ps = ap (λ (x : Cursor). x.tests) emitted.cursor ∙ k.1 ∙ zero-add (tests_in ps) in
       rw (n, o, t, a)
 
-  answer_is : reported v count total l' ≡ cond (ltb (length l) (length (bytes_of ps))) Listing (Done (counts_of count total ps))
+  answer_is : reported v count total l' ≡ cond (ltb (length l) (length (bytes_of ps))) (Err Listing) (Ok (counts_of count total ps))
   answer_is =
-      ap₂ (λ (x y : ℕ). cond (ltb x y) Listing (Done (counted v count total))) length_is position_is
-      ∙ ap (λ (x : Counts). cond (ltb (length l) (length (bytes_of ps))) Listing (Done x)) counts_are
+      ap₂ (λ (x y : ℕ). cond (ltb x y) (Err Listing) (Ok (counted v count total))) length_is position_is
+      ∙ ap (λ (x : Counts). cond (ltb (length l) (length (bytes_of ps))) (Err Listing) (Ok x)) counts_are
 
-  pub reported-listed : (a : Laid) → a ≡ reported v count total l' → record { answer = a; listing = l' } ≡ listed count total ps l
+  pub reported-listed : (a : Result Counts LayoutError) → a ≡ reported v count total l' → record { answer = a; listing = l' } ≡ listed count total ps l
   unfolding listed
-  reported-listed a e = ap₂ (λ (x : Laid) (y : List ℕ). record { answer = x; listing = y }) (e ∙ answer_is) emitted.bytes
+  reported-listed a e = ap₂ (λ (x : Result Counts LayoutError) (y : List ℕ). record { answer = x; listing = y }) (e ∙ answer_is) emitted.bytes
+
+-- the whole document is laid out from the start of a listing: what is reported is what is listed
+module _ {rows : List ℕ} {count : ℕ} {texts : List ℕ} {total width : ℕ} (accepted : Accepted rows count texts total) (narrow : width ≤ 65535)
+    {area : MutBor (List ℕ)} {s : listings.Listing} (begins : Begins area width s) where
+  pub begun_narrow : s.width ≤ 65535
+  begun_narrow = rw begins.width_is narrow
+
+  pub begun_room : Room rows texts (count - 1) s.width 0 0 s.cursor
+  begun_room = rw begins.cursor (whole_room rows count texts total s.width accepted begun_narrow)
+
+  pub begun_emitted : {m : listings.Listing} → LaysOut rows texts (count - 1) 0 false 0 s m
+      → Emitteds s.width (pieces s.width (doc_of rows count texts)) (start s.width) m.cursor s.area.now m.area.now
+  begun_emitted {m} laid =
+      whole_emitted rows count texts total s.width accepted begun_narrow m.cursor s.area.now m.area.now (rw begins.cursor at laid.laid)
+
+  pub begun_listed : (m : listings.Listing) {a : Result Counts LayoutError} {l' : List ℕ}
+      → Emitteds s.width (pieces s.width (doc_of rows count texts)) (start s.width) m.cursor s.area.now m.area.now
+      → a ≡ reported m.cursor count total m.area.now → l' ≡ m.area.now → record { answer = a; listing = l' } ≡ listed count total (pieces width (doc_of rows count texts)) area.now
+  begun_listed m {a} {l'} emitted reports same =
+      let there = rw (begins.width_is, begins.bytes) at emitted in
+      rw same (reported-listed width (pieces width (doc_of rows count texts)) m.cursor area.now m.area.now there count total a reports)
 
 -- ---- `check_given`, `layout`
 
 -- an admitted document and width keep the rules; where they are not admitted, `outcome` is that, and the area as it was
-abbrev pub Admits : List ℕ → ℕ → List ℕ → ℕ → ℕ → Admission → Type 0
-Admits rows count texts total width admissions.Admitted = Accepted rows count texts total × (width ≤ 65535)
-Admits rows count texts total width (admissions.Document row) =
-    (area : List ℕ) → untouched (laids.Document row) area ≡ outcome rows count texts total width area
-Admits rows count texts total width admissions.Width = (area : List ℕ) → untouched laids.Width area ≡ outcome rows count texts total width area
+abbrev pub Admits : List ℕ → ℕ → List ℕ → ℕ → ℕ → Result (Unit {0}) LayoutError → Type 0
+Admits rows count texts total width (Ok done) = Accepted rows count texts total × (width ≤ 65535)
+Admits rows count texts total width (Err error) = (area : List ℕ) → untouched (Err error) area ≡ outcome rows count texts total width area
 
 module _ (rows : List ℕ) (count : ℕ) (texts : List ℕ) (total width : ℕ) where
   abbrev counted_ok : Bool
   counted_ok = counts_ok (length rows) count (length texts) total
 
-  pub admission-counts : counted_ok ≡ false → admissions.Document 0 ≡ admission rows count texts total width
+  pub admission-counts : counted_ok ≡ false → Err (Document 0) ≡ admission rows count texts total width
   unfolding admission
   admission-counts e = sym (rw e)
 
   module _ (ok : counted_ok ≡ true) where
-    pub admission-fault : (r : ℕ) → r ≡ fault rows total count → r < count → admissions.Document r ≡ admission rows count texts total width
+    pub admission-fault : (r : ℕ) → r ≡ fault rows total count → r < count → Err (Document r) ≡ admission rows count texts total width
     unfolding admission
     admission-fault r e h = sym (rw (ok, ← e, lt-ltb r count h))
 
@@ -150,11 +160,11 @@ module _ (rows : List ℕ) (count : ℕ) (texts : List ℕ) (total width : ℕ) 
       whole_is : ltb (fault rows total count) count ≡ false
       whole_is = let m : count ≤ fault rows total count = omega arith in le-ltb (fault rows total count) count m
 
-      pub admission_width : 65535 < width → admissions.Width ≡ admission rows count texts total width
+      pub admission_width : 65535 < width → Err Width ≡ admission rows count texts total width
       unfolding admission
       admission_width h = sym (rw (ok, whole_is, lt-ltb 65535 width h))
 
-      pub admission_none : width ≤ 65535 → admissions.Admitted ≡ admission rows count texts total width
+      pub admission_none : width ≤ 65535 → Ok tt ≡ admission rows count texts total width
       unfolding admission
       admission_none h = sym (rw (ok, whole_is, le-ltb 65535 width h))
 
@@ -168,7 +178,7 @@ module _ (rows : List ℕ) (count : ℕ) (texts : List ℕ) (total width : ℕ) 
     where
       by : (b d e : Bool) → counted_ok ≡ b → ltb (fault rows total count) count ≡ d → ltb 65535 width ≡ e
           → Admits rows count texts total width
-          (cond b (cond d (admissions.Document (fault rows total count)) (cond e admissions.Width admissions.Admitted)) (admissions.Document 0))
+          (cond b (cond d (Err (Document (fault rows total count))) (cond e (Err Width) (Ok tt))) (Err (Document 0)))
       by false d e p q r = λ l. sym (rw p)
       by true true e p q r = λ l. sym (rw (p, q))
       by true false true p q r = λ l. sym (rw (p, q, r))
@@ -176,5 +186,5 @@ module _ (rows : List ℕ) (count : ℕ) (texts : List ℕ) (total width : ℕ) 
           (record { counts = p; faultless = no_fault p (fault rows total count) refl (ltb-false _ _ q) }, ltb-false _ _ r)
 
   -- of what `check_given` gave, once it is known which case that is
-  pub means_of : {v a : Admission} → v ≡ a → v ≡ admission rows count texts total width → Admits rows count texts total width a
+  pub means_of : {v a : Result (Unit {0}) LayoutError} → v ≡ a → v ≡ admission rows count texts total width → Admits rows count texts total width a
   means_of e q = subst (Admits rows count texts total width) (sym q ∙ e) admission_means

@@ -4,7 +4,7 @@ use native.Mathlib.Omega.{arith}
 use mathlib.Core.Bool.{Bool, true, false}
 use mathlib.Core.List.{List, [], ◌∷◌}
 use mathlib.Core.Path.{◌≡◌, refl, sym, ap, ap₂, ◌∙◌, subst}
-use lib.ListN.{length, take, drop, length-take}
+use lib.ListN.{length, drop, length-take}
 use lib.Dec.{leb}
 use Rattle.document.specs.Doc.{Doc, group, has_break, first_break, through}
 use Rattle.document.specs.Rows.{word, left_of, node, doc_at, Valid}
@@ -21,21 +21,7 @@ unfolding doc_at
 doc_kind rows texts r k e P g zero h = absurd (omega arith)
 doc_kind rows texts r k e P g (suc f) h = subst (λ (x : ℕ). P (node rows texts (doc_at rows texts f) r x)) (sym e) (g f h)
 
--- ---- one piece, as `lay_text` and `lay_break` emit it
-
-pub place_flat : (w k j n : ℕ) (flat : Bool) (c v : Cursor) (l l' : List ℕ) → flat ≡ true → j ≡ k → Emitted w (blankᵖ j) c v l l' → Emitted w (placed flat k n) c v l l'
-place_flat w k j n flat c v l l' e q a =
-    subst (λ (b : Bool). Emitted w (placed b k n) c v l l') (sym e) (subst (λ (x : ℕ). Emitted w (blankᵖ x) c v l l') q a)
-
-pub place_broken : (w k n : ℕ) (flat : Bool) (c v : Cursor) (l l' : List ℕ) → flat ≡ false → Emitted w (newlineᵖ 0 n) c v l l' → Emitted w (placed flat k n) c v l l'
-place_broken w k n flat c v l l' e a =
-    subst (λ (b : Bool). Emitted w (placed b k n) c v l l') (sym e) (record { cursor = a.cursor; bytes = a.bytes })
-
-pub text_part : (w i k x y : ℕ) (texts : List ℕ) (c v : Cursor) (l l' : List ℕ) → i ≡ x → k ≡ y
-    → Emitted w (textᵖ (take (i + k - i) (drop i texts))) c v l l' → Emitted w (textᵖ (take y (drop x texts))) c v l l'
-text_part w i k x y texts c v l l' p q a =
-    let d : i + k - i ≡ k = omega arith in
-    subst (λ (s : List ℕ). Emitted w (textᵖ s) c v l l') (ap₂ (λ (a b : ℕ). take a (drop b texts)) (d ∙ q) p) a
+-- ---- a row, from what is asked of it
 
 module _ {rows texts : List ℕ} {r w n next : ℕ} {c : Cursor} (room : Room rows texts r w n next c) where
   abbrev total : ℕ
@@ -80,7 +66,7 @@ module _ {rows texts : List ℕ} {r w n next : ℕ} {c : Cursor} (room : Room ro
       let z = text_small e in
       let p = room.position_room in
       let q = room.given.narrow in
-      record { row = row_inside; steady = room.steady; inside = omega arith; room = omega arith }
+      record { row = row_inside; inside = omega arith; room = omega arith }
 
   pub laid_text : (flat : Bool) (v : Cursor) (l l' : List ℕ) → word rows r 0 ≡ 0 → Emitted w (textᵖ (text_of rows texts r)) c v l l' → LaidOut rows texts r w n flat next c v l l'
   unfolding node layout
@@ -101,7 +87,7 @@ module _ {rows texts : List ℕ} {r w n next : ℕ} {c : Cursor} (room : Room ro
       let q = room.nest_room in
       let o = room.given.narrow in
       let m = room.count_room in
-      record { row = row_inside; steady = room.steady; blank = omega arith; newline = omega arith; line = omega arith }
+      record { row = row_inside; blank = omega arith; newline = omega arith; line = omega arith }
 
   pub laid_break : (flat : Bool) (v : Cursor) (l l' : List ℕ) → word rows r 0 ≡ 2 → Emitted w (placed flat (word rows r 1) n) c v l l' → LaidOut rows texts r w n flat next c v l l'
   unfolding node layout

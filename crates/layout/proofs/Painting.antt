@@ -1,12 +1,11 @@
--- Laws of `paint`, and of the loops that paint.
-use Prim.Native.Nat.{ℕ, zero, suc, ◌+◌, ◌-◌, ◌≤◌, ◌<◌}
-use native.Mathlib.Nat.{zero-add, suc-add, add-zero, le_refl}
+-- Laws of `paint`, and of what is put into an area.
+use Prim.Native.Nat.{ℕ, zero, suc, ◌+◌, ◌-◌, ◌≤◌, min}
+use native.Mathlib.Nat.{zero-add, suc-add, add-zero}
 use native.Mathlib.Omega.{arith}
-use native.Mathlib.Numerals.{add-one}
 use mathlib.Core.Path.{◌≡◌, refl, sym, ap, ◌∙◌}
-use mathlib.Core.List.{List, [], ◌∷◌, ◌++◌, append-nil}
-use lib.ListN.{length, take, drop, set, get_or, length-drop, drop_of_length-le, replicate, length-replicate, get_or-replicate}
-use lib.Seq.{take_all}
+use mathlib.Core.List.{List, [], ◌∷◌, ◌++◌}
+use lib.ListN.{length, take, drop, length-drop, length-take, replicate, length-replicate}
+use Rattle.std.proofs.lemmas.List.{take-replicate}
 use Rattle.layout.specs.Paint.{paint}
 
 pub paint-nil : (l : List ℕ) (at : ℕ) → paint l at [] ≡ l
@@ -22,22 +21,7 @@ length-paint (x ∷ l) (suc at) s = ap suc (length-paint l at s)
 length-paint (x ∷ l) zero [] = refl
 length-paint (x ∷ l) zero (y ∷ s) = ap suc (length-paint l zero s)
 
--- one more element
-pub paint-step : (d s : List ℕ) (i : ℕ) → i < length d → i < length s → set (paint d 0 (take i s)) i (get_or s i 0) ≡ paint d 0 (take (suc i) s)
-unfolding paint
-paint-step [] s i p q = absurd (omega arith)
-paint-step (x ∷ d) [] i p q = absurd (omega arith)
-paint-step (x ∷ d) (y ∷ s) zero p q = ap (λ (t : List ℕ). y ∷ t) (sym (paint-nil d 0))
-paint-step (x ∷ d) (y ∷ s) (suc i) p q = ap (λ (t : List ℕ). y ∷ t) (paint-step d s i (omega arith) (omega arith))
-
 -- past the end of what is painted over
-pub paint_full : (d s : List ℕ) (i : ℕ) → length d ≤ i → paint d 0 (take i s) ≡ paint d 0 s
-unfolding paint
-paint_full [] s i p = refl
-paint_full (x ∷ d) s zero p = absurd (omega arith)
-paint_full (x ∷ d) [] (suc i) p = refl
-paint_full (x ∷ d) (y ∷ s) (suc i) p = ap (λ (t : List ℕ). y ∷ t) (paint_full d s i (omega arith))
-
 pub paint_past : (l : List ℕ) (at : ℕ) (s : List ℕ) → length l ≤ at → paint l at s ≡ l
 unfolding paint
 paint_past [] at s p = refl
@@ -62,34 +46,29 @@ paint-append (x ∷ l) zero (y ∷ s) t =
     ap (λ (n : ℕ). paint (y ∷ paint l zero s) n t) (zero-add (suc (length s)))
     ∙ ap (λ (r : List ℕ). y ∷ r) (ap (λ (n : ℕ). paint (paint l zero s) n t) (sym (zero-add (length s))) ∙ paint-append l zero s t)
 
--- a turn of a loop that copies, and its two ends
-pub copy_turn : (d₀ s d : List ℕ) (i : ℕ) → d ≡ paint d₀ 0 (take i s) → length d ≡ length d₀ → i < length d → i < length s → set d i
-    (get_or s i 0) ≡ paint d₀ 0 (take (i + 1) s)
-copy_turn d₀ s d i e n p q = rw (e, add-one) (paint-step d₀ s i (omega arith) q)
+-- as many as fit are put to the front
+front : (l s : List ℕ) (n : ℕ) → n ≡ min (length s) (length l) → take n s ++ drop n l ≡ paint l 0 s
+unfolding paint
+front [] s zero e = refl
+front [] s (suc n) e = absurd (omega arith)
+front (x ∷ l) [] zero e = refl
+front (x ∷ l) [] (suc n) e = absurd (omega arith)
+front (x ∷ l) (y ∷ s) zero e = absurd (omega arith)
+front (x ∷ l) (y ∷ s) (suc n) e = ap (λ (t : List ℕ). y ∷ t) (front l s n (omega arith))
 
-pub copy_full : (d₀ s d : List ℕ) (i : ℕ) → d ≡ paint d₀ 0 (take i s) → length d ≡ length d₀ → length d ≤ i → d ≡ paint d₀ 0 s
-copy_full d₀ s d i e n p = e ∙ paint_full d₀ s i (omega arith)
+-- as many as fit are put in, from a place on
+pub put_in : (l s k : List ℕ) (at n : ℕ) → n ≡ min (length s) (length l - at) → k ≡ take n s → take at l ++ (k ++ drop (at + n - at) (drop at l)) ≡ paint l at s
+put_in l s k at n e q =
+    let m : at + n - at ≡ n = omega arith in
+    let f : n ≡ min (length s) (length (drop at l)) = rw length-drop e in
+    rw (q, m, front (drop at l) s n f) (paint_part l at s)
 
-pub copy_whole : (d₀ s d : List ℕ) (i : ℕ) → d ≡ paint d₀ 0 (take i s) → length s ≤ i → d ≡ paint d₀ 0 s
-copy_whole d₀ s d i e p = e ∙ ap (paint d₀ 0) (take_all i s p)
-
-pub fill_turn : (d₀ d : List ℕ) (n b i : ℕ) → d ≡ paint d₀ 0 (take i (replicate n b)) → length d ≡ length d₀ → i < length d → i < n → set d i
-    b ≡ paint d₀ 0 (take (i + 1) (replicate n b))
-fill_turn d₀ d n b i e h p q =
-    ap (set d i) (sym (get_or-replicate n i b 0 q)) ∙ copy_turn d₀ (replicate n b) d i e h p (rw length-replicate q)
-
-pub fill_whole : (d₀ d : List ℕ) (n b i : ℕ) → d ≡ paint d₀ 0 (take i (replicate n b)) → n ≤ i → d ≡ paint d₀ 0 (replicate n b)
-fill_whole d₀ d n b i e p = copy_whole d₀ (replicate n b) d i e (rw length-replicate p)
-
--- the part of a list from a place on, as it is lent and as it comes back
-pub part_is : (l : List ℕ) (at : ℕ) → take (length l - at) (drop at l) ≡ drop at l
-part_is l at = take_all (length l - at) (drop at l) (rw length-drop (le_refl _))
-
-pub part_back : (l : List ℕ) (at : ℕ) (s e : List ℕ) → e ≡ paint (take (length l - at) (drop at l)) 0 s → take at l ++ (e ++ drop (length l - at) (drop at l)) ≡ paint l at s
-part_back l at s e h =
-    ap (λ (r : List ℕ). take at l ++ (e ++ r)) (drop_of_length-le (drop at l) {i = length l - at} (rw length-drop (le_refl _)))
-    ∙ ap (λ (r : List ℕ). take at l ++ r) (append-nil e ∙ h ∙ ap (λ (r : List ℕ). paint r 0 s) (part_is l at))
-    ∙ paint_part l at s
+pub fill_in : (l k : List ℕ) (at n count b : ℕ) → n ≡ min count (length l - at) → k ≡ replicate (length (take (at + n - at) (drop at l))) b
+    → take at l ++ (k ++ drop (at + n - at) (drop at l)) ≡ paint l at (replicate count b)
+fill_in l k at n count b e q =
+    let m : length (take (at + n - at) (drop at l)) ≡ n = simp (length-take, length-drop) (omega arith) in
+    let least : n ≤ count = omega arith in
+    put_in l (replicate count b) k at n (rw length-replicate e) (q ∙ ap (λ (i : ℕ). replicate i b) m ∙ sym (take-replicate n count b least))
 
 -- what fits is the front, and the rest stands
 pub paint-whole : (l s : List ℕ) → length s ≤ length l → paint l 0 s ≡ s ++ drop (length s) l

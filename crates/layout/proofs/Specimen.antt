@@ -2,11 +2,11 @@
 -- that holds a newline, which begins no line.
 use Prim.Native.Nat.{ℕ}
 use mathlib.Core.List.{List, [], ◌∷◌}
+use Rattle.std.proofs.Common.{Ok}
 use mathlib.Core.Path.{◌≡◌, refl}
 use Rattle.document.specs.Doc.{Doc, text, join, break, nest, group, row_count, flat_size, first_break, has_break, text_bytes}
 use Rattle.document.specs.Rows.{doc_at, node, fault, scan, whole, row_ok, text_before}
 use Rattle.document.specs.Stored.{stored, own_row}
-use Rattle.layout.specs.declared.Laid.TheVariants.{Done}
 use Rattle.layout.specs.Layout.{pieces, layout, run}
 use Rattle.layout.specs.Listing.{bytes_of, broken_places, longest_row, tests_in}
 use Rattle.layout.specs.Paint.{paint}
@@ -28,7 +28,7 @@ area = 0 ∷ 0 ∷ 0 ∷ 0 ∷ 0 ∷ 0 ∷ 0 ∷ 0 ∷ 0 ∷ 0 ∷ 0 ∷ 0 ∷ 0
 
 two_rows : outcome (stored 0 arrow) 17 (text_bytes arrow) 12 12 area
     ≡ record {
-      answer = Done (record { rows = 17; text = 12; length = 13; lines = 2; longest = 8; tests = 3 });
+      answer = Ok (record { rows = 17; text = 12; length = 13; lines = 2; longest = 8; tests = 3 });
       listing = 64 ∷ 78 ∷ 97 ∷ 116 ∷ 32 ∷ 226 ∷ 134 ∷ 146 ∷ 10 ∷ 64 ∷ 78 ∷ 97 ∷ 116 ∷ 9 ∷ [];
     }
 unfolding arrow nat bytes_of pieces layout run flat_size first_break has_break row_count stored own_row text_bytes outcome listed untouched doc_at node fault scan whole row_ok

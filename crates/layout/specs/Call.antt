@@ -1,40 +1,40 @@
 -- What the call `layout` answers, and what it leaves in the listing area (document 01, "From the input", "From the lent areas").
-use Rattle.std.specs.Prelude.{ℕ, ◌-◌, cond, List, length, ltb, eqb}
+use Rattle.std.specs.Prelude.{ℕ, ◌-◌, cond, List, Result, Ok, Err, length, ltb, eqb}
 use Rattle.document.specs.Doc.{Doc}
 use Rattle.document.specs.Rows.{doc_at, fault, counts_ok}
 use Rattle.layout.specs.declared.Counts.{Counts}
-use Rattle.layout.specs.declared.Laid.{Laid}
-use Rattle.layout.specs.declared.Laid.TheVariants.{Done, Document, Width, Listing}
+use Rattle.layout.specs.declared.LayoutError.{LayoutError}
+use Rattle.layout.specs.declared.LayoutError.TheVariants.{Document, Width, Listing}
 use Rattle.layout.specs.Layout.{Piece, pieces}
 use Rattle.layout.specs.Listing.{bytes_of, lines, longest_row, tests_in}
 use Rattle.layout.specs.Paint.{paint}
 
 -- the number of an answer, 0 for none: "9: a given document breaks a row rule, ..", "6: .. width over 65,535", "22: listing longer than
 -- its area"
-abbrev pub number : Laid → ℕ
-number (Done counts) = 0
-number (Document row) = 9
-number Width = 6
-number Listing = 22
+abbrev pub number : Result Counts LayoutError → ℕ
+number (Ok counts) = 0
+number (Err (Document row)) = 9
+number (Err Width) = 6
+number (Err Listing) = 22
 
 -- "place: for .. 9 the first faulty row in its table (0 for counts), .. else 0"
-abbrev pub place : Laid → ℕ
-place (Done counts) = 0
-place (Document row) = row
-place Width = 0
-place Listing = 0
+abbrev pub place : Result Counts LayoutError → ℕ
+place (Ok counts) = 0
+place (Err (Document row)) = row
+place (Err Width) = 0
+place (Err Listing) = 0
 
 -- the case that is refused under each number, at a place
-abbrev pub refusal : ℕ → ℕ → Laid
-refusal n at = cond (eqb n 9) (Document at) (cond (eqb n 6) Width Listing)
+abbrev pub refusal : ℕ → ℕ → Result Counts LayoutError
+refusal n at = Err (cond (eqb n 9) (Document at) (cond (eqb n 6) Width Listing))
 
 -- an answer, and the listing area afterwards
 pub record Outcome : Type 0 where
-  pub answer : Laid
+  pub answer : Result Counts LayoutError
   pub listing : List ℕ
 
 -- no byte of the listing area is written
-unfoldable pub untouched : Laid → List ℕ → Outcome
+unfoldable pub untouched : Result Counts LayoutError → List ℕ → Outcome
 untouched answer area = record { answer = answer; listing = area }
 
 -- "document rows, text bytes, listing length, lines .., longest row, and fit tests"
@@ -54,7 +54,7 @@ counts_of rows text ps =
 unfoldable pub listed : ℕ → ℕ → List Piece → List ℕ → Outcome
 listed rows text ps area =
     record {
-      answer = cond (ltb (length area) (length (bytes_of ps))) (refusal 22 0) (Done (counts_of rows text ps));
+      answer = cond (ltb (length area) (length (bytes_of ps))) (refusal 22 0) (Ok (counts_of rows text ps));
       listing = paint area 0 (bytes_of ps);
     }
 

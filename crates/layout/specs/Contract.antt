@@ -1,13 +1,11 @@
 -- What the functions of the layout ask and ensure.
-use Rattle.std.specs.Prelude.{ℕ, ◌+◌, ◌-◌, ◌*◌, ◌<◌, ◌≤◌, Bool, cond, List, ◌≡◌, length, take, drop, ltb}
+use Rattle.std.specs.Prelude.{ℕ, ◌+◌, ◌-◌, ◌*◌, ◌<◌, ◌≤◌, Bool, cond, List, Result, Ok, Err, ◌≡◌, length, take, drop, ltb}
 use Rattle.document.specs.Doc.{through}
 use Rattle.document.specs.Rows.{word, doc_at, Valid, fault, counts_ok}
 use Rattle.layout.specs.declared.cursor.Cursor.{Cursor}
 use Rattle.layout.specs.declared.Counts.{Counts}
-use Rattle.layout.specs.declared.Laid.{Laid}
-use Rattle.layout.specs.declared.Laid.TheVariants as laids
-use Rattle.layout.specs.declared.Admission.{Admission}
-use Rattle.layout.specs.declared.Admission.TheVariants.{Admitted, Document, Width}
+use Rattle.layout.specs.declared.LayoutError.{LayoutError}
+use Rattle.layout.specs.declared.LayoutError.TheVariants.{Document, Width, Listing}
 use Rattle.layout.specs.Layout.{Piece, after, run, layout}
 use Rattle.layout.specs.Listing.{piece_bytes, bytes_of}
 use Rattle.layout.specs.Paint.{paint}
@@ -23,14 +21,12 @@ text_of rows texts r = take (word rows r 2) (drop (word rows r 1) texts)
 -- the text of row r lies in the text area, and the numbers stay below the machine's limit when it is emitted
 pub record TextRoom (rows texts : List ℕ) (r width : ℕ) (c : Cursor) : Type 0 where
   pub row : r * 7 + 7 ≤ length rows
-  pub steady : Steady width c
   pub inside : word rows r 1 + word rows r 2 ≤ length texts
   pub room : c.position + word rows r 2 + width < 18446744073709551616
 
 -- the same of a break, as a blank and as a newline
 pub record BreakRoom (rows : List ℕ) (r width nest : ℕ) (c : Cursor) : Type 0 where
   pub row : r * 7 + 7 ≤ length rows
-  pub steady : Steady width c
   pub blank : c.position + word rows r 1 + width < 18446744073709551616
   pub newline : c.position + 1 + nest + width < 18446744073709551616
   pub line : c.lines + 1 < 18446744073709551616
@@ -81,12 +77,12 @@ pub record LaidOut
   pub count_bound : v.lines + v.tests ≤ c.lines + c.tests + word rows r 3
 
 -- 9, then 6, as in `outcome`: what comes before a row is laid out
-unfoldable pub admission : List ℕ → ℕ → List ℕ → ℕ → ℕ → Admission
+unfoldable pub admission : List ℕ → ℕ → List ℕ → ℕ → ℕ → Result (Unit {0}) LayoutError
 admission rows count texts total width =
     cond (counts_ok (length rows) count (length texts) total)
-    (cond (ltb (fault rows total count) count) (Document (fault rows total count))
-    (cond (ltb 65535 width) Width Admitted))
-    (Document 0)
+    (cond (ltb (fault rows total count) count) (Err (Document (fault rows total count)))
+    (cond (ltb 65535 width) (Err Width) (Ok tt)))
+    (Err (Document 0))
 
 -- the counts from the last cursor
 abbrev pub counted : Cursor → ℕ → ℕ → Counts
@@ -94,6 +90,6 @@ counted v count total =
     record { rows = count; text = total; length = v.position; lines = v.lines; longest = v.longest; tests = v.tests }
 
 -- the answer from the last cursor and the listing area
-abbrev pub reported : Cursor → ℕ → ℕ → List ℕ → Laid
+abbrev pub reported : Cursor → ℕ → ℕ → List ℕ → Result Counts LayoutError
 reported v count total l =
-    cond (ltb (length l) v.position) laids.Listing (laids.Done (counted v count total))
+    cond (ltb (length l) v.position) (Err Listing) (Ok (counted v count total))

@@ -51,10 +51,14 @@ abbrev pub placed : Bool → ℕ → ℕ → Piece
 placed true blank n = blankᵖ blank
 placed false blank n = newlineᵖ blank n
 
+-- so many bytes, and those up to the next break, end in the row
+abbrev pub fits_bytes : Cursor → ℕ → ℕ → Bool
+fits_bytes c size next = leb (c.position + size + next) c.end
+
 -- "A group not inside a flat one is flat exactly if position + flat size + distance from its end to the next break (or to the end) is
 -- at most the row's end": `next` is the distance from the group's end to the next break, or to the end
 abbrev pub fits : Cursor → Doc → ℕ → Bool
-fits c d next = leb (c.position + flat_size d + next) c.end
+fits c d next = fits_bytes c (flat_size d) next
 
 -- "Layout meets texts and breaks in row order." The pieces of a document in a nest, inside a flat group or not, from a cursor on.
 unfoldable pub layout : ℕ → Doc → ℕ → Bool → ℕ → Cursor → List Piece

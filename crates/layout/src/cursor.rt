@@ -1,10 +1,10 @@
-// The row cursor. It goes by value; its methods emit a piece into the listing area and hand back the cursor after it.
-// The position may run past the area, where nothing is written: the refusal (22) is one test at the end.
-ghost use Rattle.std.specs.Prelude.{◌≡◌, ◌+◌, ◌<◌, ◌≤◌, max, length};
+// The row cursor. It goes by value: its methods emit a piece into the area, at the cursor, and hand back the cursor after it.
+// The cursor may run past the area, where nothing is written: the refusal (22) is one test at the end.
+ghost use Rattle.std.specs.Prelude.{◌≡◌, ◌+◌, ◌<◌, ◌≤◌, length};
+ghost use Rattle.layout.specs.Layout;
 ghost use Rattle.layout.specs.Layout.{textᵖ, blankᵖ, newlineᵖ};
-ghost use Rattle.layout.specs.Contract.{Steady};
-ghost use Rattle.basics.specs.Lent.{was};
-ghost use Rattle.layout.specs.Frames.{Emits};
+ghost use Rattle.layout.specs.Contract.{Steady, Emitted};
+ghost use Rattle.basics.specs.Lent.{was, left};
 
 use crate::area::{copy_at, fill_at};
 
@@ -32,12 +32,6 @@ pub fn start(width: usize) -> Cursor
     }
 }
 
-fn larger(a: usize, b: usize) -> usize
-    ensures { result ≡ max a b }
-{
-    if a < b { b } else { a }
-}
-
 impl Cursor {
     // The cursor further on in the same row, which starts at end - width.
     fn moved(self, width: usize, position: usize) -> Cursor
@@ -46,50 +40,41 @@ impl Cursor {
     {
         Cursor {
             position,
-            end: self.end,
-            lines: self.lines,
-            longest: larger(self.longest, position + width - self.end),
-            tests: self.tests,
+            longest: self.longest.max(position + width - self.end),
+            ..self
         }
     }
 
-    pub fn text(self, width: usize, listing: &mut [u8], bytes: &[u8]) -> Cursor
+    pub fn text(self, width: usize, area: &mut [u8], bytes: &[u8]) -> Cursor
         requires { Steady width self × (self.position + length bytes.now + width < 18446744073709551616) }
-        ensures { Emits listing width (textᵖ bytes.now) self result }
+        ensures { Emitted width (textᵖ bytes.now) self result (was area) (left area) }
     {
-        let position = self.position;
-        let last = position + bytes.len();
-        copy_at(listing, position, bytes);
-        self.moved(width, last)
+        copy_at(area, self.position, bytes);
+        self.moved(width, self.position + bytes.len())
     }
 
-    pub fn blank(self, width: usize, listing: &mut [u8], size: usize) -> Cursor
+    pub fn blank(self, width: usize, area: &mut [u8], size: usize) -> Cursor
         requires { Steady width self × (self.position + size + width < 18446744073709551616) }
-        ensures { Emits listing width (blankᵖ size) self result }
+        ensures { Emitted width (blankᵖ size) self result (was area) (left area) }
     {
-        let position = self.position;
-        fill_at(listing, position, size, 32);
-        self.moved(width, position + size)
+        fill_at(area, self.position, size, b' ');
+        self.moved(width, self.position + size)
     }
 
-    // A broken place, which begins a line. The row's end is set after the newline and before the nest's spaces.
-    pub fn newline(self, width: usize, listing: &mut [u8], nest: usize) -> Cursor
+    // A broken place, which begins a line: a newline, then the row's end is set to position + width, then the nest in spaces.
+    pub fn newline(self, width: usize, area: &mut [u8], nest: usize) -> Cursor
         requires { (self.position + 1 + nest + width < 18446744073709551616) × (self.lines + 1 < 18446744073709551616) }
-        ensures { Emits listing width (newlineᵖ 0 nest) self result }
+        ensures { Emitted width (newlineᵖ 0 nest) self result (was area) (left area) }
     {
-        let position = self.position;
-        let next = position + 1;
-        let last = next + nest;
-        fill_at(listing, position, 1, 10);
-        fill_at(listing, next, nest, 32);
+        fill_at(area, self.position, 1, b'\n');
+        let position = self.position + 1;
         let row = Cursor {
-            position: next,
-            end: next + width,
+            position,
+            end: position + width,
             lines: self.lines + 1,
-            longest: self.longest,
-            tests: self.tests,
+            ..self
         };
-        row.moved(width, last)
+        row.blank(width, area, nest)
     }
 
     // One fit test more.
@@ -98,11 +83,8 @@ impl Cursor {
         ensures { result ≡ Rattle.layout.specs.Layout.tested self }
     {
         Cursor {
-            position: self.position,
-            end: self.end,
-            lines: self.lines,
-            longest: self.longest,
             tests: self.tests + 1,
+            ..self
         }
     }
 }

@@ -3,10 +3,10 @@ ghost use Rattle.std.specs.Prelude.{◌≡◌, ◌+◌, ◌*◌, ◌<◌, ◌≤
 ghost use Rattle.document.specs.Rows.{word};
 ghost use Rattle.layout.specs.Layout.{textᵖ, placed};
 ghost use Rattle.layout.specs.Contract.{TextRoom, BreakRoom, Room, next_of_left, text_of};
-ghost use Rattle.basics.specs.Lent.{was};
 ghost use Rattle.layout.specs.Frames.{Emits, LaysOut};
 
-use crate::cursor::Cursor;
+use crate::listing::Listing;
+use document::accepted::AcceptedDocument;
 use document::measures::{left_of, through, word_in};
 
 // The distance from the end of the left child of the join at row r to the next break, where it is `next` at the join's end.
@@ -18,92 +18,68 @@ pub fn next_of_left(rows: &[u32], r: usize, next: usize) -> usize
     through(word_in(rows, right, 6), word_in(rows, right, 5), next)
 }
 
-pub fn lay_text(
-    r: usize,
-    rows: &[u32],
-    texts: &[u8],
-    width: usize,
-    c: Cursor,
-    listing: &mut [u8],
-) -> Cursor
-    requires { TextRoom rows.now texts.now r width c }
-    ensures { Emits listing width (textᵖ (text_of rows.now texts.now r)) c result }
+pub fn lay_text(r: usize, document: &AcceptedDocument<'_>, listing: &mut Listing<'_>)
+    requires { TextRoom document.now.rows.now document.now.text.now r listing.old.width listing.old.cursor }
+    ensures { Emits listing.old listing.new (textᵖ (text_of document.now.rows.now document.now.text.now r)) }
 {
-    let from = word_in(rows, r, 1);
-    let size = word_in(rows, r, 2);
-    let to = from + size;
-    c.text(width, listing, &texts[from..to])
+    let from = word_in(document.rows, r, 1);
+    let to = from + word_in(document.rows, r, 2);
+    listing.text(&document.text[from..to]);
 }
 
 pub fn lay_break(
     r: usize,
-    rows: &[u32],
-    width: usize,
+    document: &AcceptedDocument<'_>,
     nest: usize,
     flat: bool,
-    c: Cursor,
-    listing: &mut [u8],
-) -> Cursor
-    requires { BreakRoom rows.now r width nest c }
-    ensures { Emits listing width (placed flat (word rows.now r 1) nest) c result }
+    listing: &mut Listing<'_>,
+)
+    requires { BreakRoom document.now.rows.now r listing.old.width nest listing.old.cursor }
+    ensures { Emits listing.old listing.new (placed flat (word document.now.rows.now r 1) nest) }
 {
     if flat {
-        let blank = word_in(rows, r, 1);
-        return c.blank(width, listing, blank);
+        listing.blank(word_in(document.rows, r, 1));
+    } else {
+        listing.newline(nest);
     }
-    c.newline(width, listing, nest)
 }
 
 // Lays out the subtree of row r0. The last child of a row is the next turn of the loop, and only a left child is a call: a call for each
 // child would take twice the machine's stack.
 pub fn lay_out(
     r0: usize,
-    rows: &[u32],
-    texts: &[u8],
-    width: usize,
+    document: &AcceptedDocument<'_>,
     nest0: usize,
     flat0: bool,
     next: usize,
-    c0: Cursor,
-    listing: &mut [u8],
-) -> Cursor
-    requires { Room rows.now texts.now r0 width nest0 next c0 }
-    ensures { LaysOut rows texts listing r0 width nest0 flat0 next c0 result }
+    listing: &mut Listing<'_>,
+)
+    requires { Room document.now.rows.now document.now.text.now r0 listing.old.width nest0 next listing.old.cursor }
+    ensures { LaysOut document.now.rows.now document.now.text.now r0 nest0 flat0 next listing.old listing.new }
 {
+    let rows = document.rows;
     let mut r = r0;
     let mut nest = nest0;
     let mut flat = flat0;
-    let mut c = c0;
-    loop {
-        let kind = word_in(rows, r, 0);
-        if kind == 0 {
-            return lay_text(r, rows, texts, width, c, listing);
+    'row: loop {
+        // The kinds are words of the rows, as C has them: 0 text, 1 join, 2 break, 3 nest, 4 group.
+        match word_in(rows, r, 0) {
+            0 => return lay_text(r, document, listing),
+            1 => {
+                let left = left_of(rows, r);
+                lay_out(
+                    left,
+                    document,
+                    nest,
+                    flat,
+                    next_of_left(rows, r, next),
+                    listing,
+                );
+            }
+            2 => return lay_break(r, document, nest, flat, listing),
+            3 => nest += word_in(rows, r, 1),
+            _ => flat = flat || listing.fits(word_in(rows, r, 4), next),
         }
-        if kind == 2 {
-            return lay_break(r, rows, width, nest, flat, c, listing);
-        }
-        if kind == 1 {
-            c = lay_out(
-                left_of(rows, r),
-                rows,
-                texts,
-                width,
-                nest,
-                flat,
-                next_of_left(rows, r, next),
-                c,
-                listing,
-            );
-            r = r - 1;
-        } else if kind == 3 {
-            nest = nest + word_in(rows, r, 1);
-            r = r - 1;
-        } else if flat {
-            r = r - 1;
-        } else {
-            flat = c.position + word_in(rows, r, 4) + next <= c.end;
-            c = c.tested();
-            r = r - 1;
-        }
+        r -= 1;
     }
 }

@@ -4,15 +4,16 @@ use Prim.Native.Nat.{ℕ}
 use mathlib.Core.List.{[], ◌∷◌}
 use mathlib.Core.Path.{◌≡◌, refl}
 use lib.ListN.{replicate}
+use Rattle.std.proofs.Common.{Ok, Err}
 use Rattle.document.specs.Doc.{Doc, text, join, break, group, row_count, flat_size, first_break, has_break, text_bytes}
 use Rattle.document.specs.Rows.{doc_at, node, fault, scan, whole, row_ok, text_before}
 use Rattle.document.specs.Stored.{stored, own_row}
-use Rattle.layout.specs.declared.Laid.TheVariants as laids
+use Rattle.layout.specs.declared.LayoutError.TheVariants as errors
 use Rattle.layout.specs.Layout.{pieces, layout, run}
 use Rattle.layout.specs.Listing.{bytes_of, broken_places, longest_row, tests_in}
 use Rattle.layout.specs.Paint.{paint}
 use Rattle.layout.specs.Call.{outcome, listed, untouched}
-use Rattle.layout_pending.specs.declared.LaidPending.TheVariants as answers
+use Rattle.layout_pending.specs.declared.PendingError.TheVariants.{Layout, PendingArea}
 use Rattle.layout_pending.specs.Call.{Outcome, with30, outcome_pending}
 
 abbrev two : Doc
@@ -24,7 +25,7 @@ laid count width words bytes = outcome_pending (stored 0 two) count (text_bytes 
 
 listed_and_cleared : laid 6 4 18 7
     ≡ record {
-      answer = answers.Laid (laids.Done (record { rows = 6; text = 4; length = 5; lines = 2; longest = 2; tests = 1 }));
+      answer = Ok (record { rows = 6; text = 4; length = 5; lines = 2; longest = 2; tests = 1 });
       listing = 97 ∷ 98 ∷ 10 ∷ 99 ∷ 100 ∷ 7 ∷ 7 ∷ [];
       pending = replicate 18 0;
     }
@@ -34,7 +35,7 @@ listed_and_cleared = refl
 
 cleared_past_the_entries : laid 6 4 20 5
     ≡ record {
-      answer = answers.Laid (laids.Done (record { rows = 6; text = 4; length = 5; lines = 2; longest = 2; tests = 1 }));
+      answer = Ok (record { rows = 6; text = 4; length = 5; lines = 2; longest = 2; tests = 1 });
       listing = 97 ∷ 98 ∷ 10 ∷ 99 ∷ 100 ∷ [];
       pending = replicate 20 0;
     }
@@ -44,7 +45,7 @@ cleared_past_the_entries = refl
 
 cleared_after_22 : laid 6 4 18 4
     ≡ record {
-      answer = answers.Laid laids.Listing;
+      answer = Err (Layout errors.Listing);
       listing = 97 ∷ 98 ∷ 10 ∷ 99 ∷ [];
       pending = replicate 18 0;
     }
@@ -54,7 +55,7 @@ cleared_after_22 = refl
 
 one_word_short : laid 6 4 17 4
     ≡ record {
-      answer = answers.PendingArea;
+      answer = Err PendingArea;
       listing = replicate 4 7;
       pending = replicate 17 7;
     }
@@ -64,7 +65,7 @@ one_word_short = refl
 
 width_before_pending : laid 6 65536 17 4
     ≡ record {
-      answer = answers.Laid laids.Width;
+      answer = Err (Layout errors.Width);
       listing = replicate 4 7;
       pending = replicate 17 7;
     }
@@ -74,7 +75,7 @@ width_before_pending = refl
 
 document_before_pending : laid 4 4 11 4
     ≡ record {
-      answer = answers.Laid (laids.Document 3);
+      answer = Err (Layout (errors.Document 3));
       listing = replicate 4 7;
       pending = replicate 11 7;
     }

@@ -237,7 +237,8 @@ module _ {rows texts : List ℕ} {count w : ℕ} {l0 : List ℕ} {e : Entry} {es
   test_asks =
       let n = head.next_room in
       let p = g.position_room in
-      record { row = row_inside head_room; next = omega arith; position = omega arith }
+      let t = g.count_room in
+      record { row = row_inside head_room; next = omega arith; position = omega arith; tests = omega arith }
 
   module _ (k : ℕ) (kind : word rows e.row 0 ≡ suc (suc (suc (suc k)))) where
     pub group_within : Within rows count (grouped rows e c)

@@ -1,5 +1,6 @@
 -- The loop of `lay_out_pending` over the pending area: what a turn leaves there stands for what is still to be laid out.
-use Prim.Native.Nat.{ℕ, ◌+◌, ◌-◌, ◌*◌, ◌≤◌, ◌<◌}
+use Prim.Native.Nat.{ℕ, suc, ◌+◌, ◌-◌, ◌*◌, ◌≤◌, ◌<◌}
+use mathlib.Core.Bool.{Bool}
 use native.Mathlib.Omega.{arith}
 use mathlib.Core.List.{List, [], ◌∷◌, append-nil}
 use mathlib.Core.Path.{◌≡◌, refl, sym, ap, ◌∙◌, subst}
@@ -9,13 +10,18 @@ use Rattle.layout.specs.declared.cursor.Cursor.{Cursor}
 use Rattle.layout.specs.Layout.{Piece, run, start, pieces}
 use Rattle.layout.specs.Call.{doc_of}
 use Rattle.layout.specs.Listing.{bytes_of}
-use Rattle.layout.specs.Contract.{Emitteds, LaidOut}
+use Rattle.layout.specs.declared.listing.Listing.{Listing}
+use Rattle.layout.specs.Contract.{Emitteds, LaidOut, Room}
+use Rattle.layout.specs.Frames.{Later, LaysOut}
 use Rattle.layout.proofs.Painting.{paint-nil}
+use Rattle.layout.proofs.Going.{later_still, laid_length}
 use Rattle.layout_pending.specs.declared.entries.Entry.{Entry}
-use Rattle.layout_pending.specs.Contract.{entry_at, put_at, stack, left_child, right_child, whole_entry, Lends}
+use Rattle.layout_pending.specs.Contract.{entry_at, put_at, stack, left_child, right_child, last_child, nested, grouped, whole_entry, Lends}
+use Rattle.layout_pending.specs.Frames.{Asks, LaysOutWhole}
 use Rattle.layout_pending.proofs.StackLaws.{Small, stack-put, stack_top, stack_none, stack-length, length-put}
 use Rattle.layout_pending.proofs.Remaining.{remaining}
-use Rattle.layout_pending.proofs.Taking.{Taking, Within, AllWithin, weight, many, taken, taken_less, left-within, right_within, join_less, taken_join}
+use Rattle.layout_pending.proofs.Taking.{Taking, Within, AllWithin, weight, many, head_room, taken, taken_less, left-within, right_within, join_less, taken_join}
+use Rattle.layout_pending.proofs.Taking.{child_less, nest_within, taken_nest, group_within, taken_group}
 
 pub record Turning (rows texts : List ℕ) (count w : ℕ) (p0 l0 p : List ℕ) (depth : ℕ) (c : Cursor) (l : List ℕ) : Type 0 where
   pub few : count ≤ 16384
@@ -57,13 +63,6 @@ module _ {rows texts : List ℕ} {count w : ℕ} {p0 : List ℕ} (lends : Lends 
   small =
       let f = lends.given.few in
       record { row = omega arith; nest = omega arith; next = omega arith }
-
-  pub start_asks : (e : Entry) → e ≡ whole_entry count → (3 ≤ length p0) × (e.nest < 4294967296)
-  start_asks e a =
-      let r = lends.room in
-      let s = lends.some in
-      let n : e.nest ≡ 0 = ap (λ (x : Entry). x.nest) a in
-      (omega arith, omega arith)
 
   pub turning_start : (p : List ℕ) (e : Entry) (c : Cursor) → p ≡ put_at p0 0 e → e ≡ whole_entry count → c ≡ start w → Turning rows texts count w p l p 1 c l
   turning_start p e c q a b =
@@ -242,3 +241,85 @@ module _ {rows texts : List ℕ} {count w : ℕ} {p0 l0 p : List ℕ} {depth : �
       turn_join_less =
           subst (λ (s : List Entry). weight rows s < weight rows (stack p depth)) (sym both_stack)
           (subst (λ (s : List Entry). weight rows both < weight rows s) (sym stack_is) (join_less top_taking kind))
+
+-- ---- the same of the listing that the loop emits into
+
+pub record TurningOn (rows texts : List ℕ) (count : ℕ) (p0 : List ℕ) (l0 : Listing) (p : List ℕ) (depth : ℕ) (l : Listing) : Type 0 where
+  pub later : Later l0 l
+  pub turning : Turning rows texts count l0.width p0 l0.area.now p depth l.cursor l.area.now
+
+pub on_start : {rows texts : List ℕ} {count : ℕ} {p0 : List ℕ} {l : Listing} → Lends rows count texts l.width p0 → l.cursor ≡ start l.width → (p : List ℕ) (e : Entry)
+    → p ≡ put_at p0 0 e → e ≡ whole_entry count → TurningOn rows texts count p l p 1 l
+on_start {l = l} lends starts p e q a =
+    record { later = record { same_area = refl; width = refl }; turning = turning_start lends l.area.now p e l.cursor q a starts }
+
+pub on_end : {rows texts : List ℕ} {count : ℕ} {p0 : List ℕ} {l0 : Listing} {p : List ℕ} {depth : ℕ} {l : Listing}
+    → TurningOn rows texts count p0 l0 p depth l → depth ≤ 0 → LaysOutWhole rows count texts l0 l
+on_end g h = record { later = g.later; emitted = turning_end g.turning h }
+
+-- the entry at the top is e
+pub record OnTop (rows texts : List ℕ) (count : ℕ) (p0 : List ℕ) (l0 : Listing) (p : List ℕ) (depth : ℕ) (l : Listing) (e : Entry) : Type 0 where
+  pub later : Later l0 l
+  pub top : Top rows texts count l0.width p0 l0.area.now p depth l.cursor l.area.now e
+
+pub on_top : {rows texts : List ℕ} {count : ℕ} {p0 : List ℕ} {l0 : Listing} {p : List ℕ} {depth : ℕ} {l : Listing} {e : Entry}
+    → TurningOn rows texts count p0 l0 p depth l → 0 < depth → e ≡ entry_at p (depth - 1) → OnTop rows texts count p0 l0 p depth l e
+on_top g h q = record { later = g.later; top = top_of g.turning h q }
+
+module _ {rows texts : List ℕ} {count : ℕ} {p0 : List ℕ} {l0 : Listing} {p : List ℕ} {depth : ℕ} {l : Listing} {e : Entry}
+    (g : OnTop rows texts count p0 l0 p depth l e) where
+  abbrev top : Top rows texts count l0.width p0 l0.area.now p depth l.cursor l.area.now e
+  top = g.top
+
+  -- what is asked, at the width of now
+  pub room_now : Room rows texts e.row l.width e.nest e.next l.cursor
+  room_now = subst (λ (w : ℕ). Room rows texts e.row w e.nest e.next l.cursor) (sym g.later.width) (head_room (top_taking top))
+
+  pub on_taken : {m : Listing} → LaysOut rows texts e.row e.nest e.flat e.next l m → TurningOn rows texts count p0 l0 p (depth - 1) m
+  on_taken {m} a =
+      let laid = subst (λ (w : ℕ). LaidOut rows texts e.row w e.nest e.flat e.next l.cursor m.cursor l.area.now m.area.now) g.later.width a.laid in
+      record { later = later_still g.later a.later; turning = turn_taken top (laid_length laid) laid }
+
+  pub on_join : (kind : word rows e.row 0 ≡ 1) (p' : List ℕ) (x : Entry) → p' ≡ put_at p (depth - 1) x → x ≡ right_child e
+      → (p'' : List ℕ) (x'' : Entry) → p'' ≡ put_at p' depth x'' → x'' ≡ left_child rows e → TurningOn rows texts count p0 l0 p'' (depth + 1) l
+  on_join kind p' x z y p'' x'' z'' y'' = record { later = g.later; turning = turn_join top kind p' x z y p'' x'' z'' y'' }
+
+  -- a nest, over its child
+  module _ (kind : word rows e.row 0 ≡ 3) {amount : ℕ} (a : amount ≡ word rows e.row 1) {x : Entry} (y : x ≡ last_child e (e.nest + amount) e.flat) where
+    is_nested : x ≡ nested rows e
+    is_nested = y ∙ ap (λ (n : ℕ). last_child e (e.nest + n) e.flat) a
+
+    pub nest_asks : ((depth - 1) * 3 + 3 ≤ length p) × (x.nest < 4294967296)
+    nest_asks = put_asks top (nested rows e) x is_nested (nest_within (top_taking top) kind)
+
+    pub on_nest : {p' : List ℕ} → p' ≡ put_at p (depth - 1) x → TurningOn rows texts count p0 l0 p' depth l
+    on_nest {p'} z =
+        let t = top_taking top in
+        record { later = g.later; turning = turn_put top (nested rows e) (nest_within t kind) p' x z is_nested refl (taken_nest t kind) }
+
+    pub nest_less : {p' : List ℕ} → p' ≡ put_at p (depth - 1) x → weight rows (stack p' depth) < weight rows (stack p depth)
+    nest_less {p'} z =
+        let t = top_taking top in
+        turn_put_less top (nested rows e) (nest_within t kind) p' x z is_nested (child_less t 0 kind (nested rows e) refl)
+
+  -- a group, over its child, once it is asked whether it is flat
+  module _ {k : ℕ} (kind : word rows e.row 0 ≡ suc (suc (suc (suc k)))) {m : Listing} {flat : Bool} (a : Asks rows e l m flat) {x : Entry} (y : x ≡ last_child e e.nest flat) where
+    is_grouped : x ≡ grouped rows e l.cursor
+    is_grouped = y ∙ ap (λ (f : Bool). last_child e e.nest f) a.answer
+
+    pub group_asks : ((depth - 1) * 3 + 3 ≤ length p) × (x.nest < 4294967296)
+    group_asks = put_asks top (grouped rows e l.cursor) x is_grouped (group_within (top_taking top) k kind)
+
+    pub on_group : {p' : List ℕ} → p' ≡ put_at p (depth - 1) x → TurningOn rows texts count p0 l0 p' depth m
+    on_group {p'} z =
+        let t = top_taking top in
+        let turned = turn_put top (grouped rows e l.cursor) (group_within t k kind) p' x z is_grouped a.cursor (taken_group t k kind) in
+        record {
+          later = later_still g.later a.later;
+          turning = subst (Turning rows texts count l0.width p0 l0.area.now p' depth m.cursor) (sym a.bytes) turned;
+        }
+
+    pub group_less : {p' : List ℕ} → p' ≡ put_at p (depth - 1) x → weight rows (stack p' depth) < weight rows (stack p depth)
+    group_less {p'} z =
+        let t = top_taking top in
+        turn_put_less top (grouped rows e l.cursor) (group_within t k kind) p' x z is_grouped (child_less t (suc k) kind (grouped rows e l.cursor) refl)

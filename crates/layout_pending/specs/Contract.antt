@@ -74,6 +74,7 @@ pub record TestRoom (rows : List ℕ) (e : Entry) (c : Cursor) : Type 0 where
   pub row : e.row * 7 + 7 ≤ length rows
   pub next : e.next < 4611686018427387904
   pub position : c.position < 4611686018427387904
+  pub tests : c.tests + 1 < 18446744073709551616
 
 -- the rows keep the row rules, the last one is their whole, and the pending area has three words for each
 pub record Lends (rows : List ℕ) (count : ℕ) (texts : List ℕ) (width : ℕ) (pending : List ℕ) : Type 0 where

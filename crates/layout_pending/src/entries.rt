@@ -1,10 +1,12 @@
 // The entries of the pending area, a stack: three words each, for the row, nest × 2 + flat, and the distance from the row's end to the next
-// break.
+// break. C lends the area, so it is one of words.
 ghost use Rattle.std.specs.Prelude.{◌≡◌, ◌+◌, ◌*◌, ◌≤◌, ◌<◌, length};
 ghost use Rattle.basics.specs.Lent.{was, left};
-ghost use Rattle.layout_pending.specs.Contract.{bit, entry_at, put_at};
+ghost use Rattle.layout_pending.specs.Contract.{entry_at, put_at, whole_entry, left_child, last_child};
 
 use basics::numbers::low;
+use document::measures::left_of;
+use layout::rows::next_of_left;
 
 // A row that is still to be laid out: the nest it stands in, whether it is inside a flat group, and the distance from its end to the next
 // break (or to the end).
@@ -16,10 +18,44 @@ pub struct Entry {
     pub next: usize,
 }
 
-fn one_if(b: bool) -> usize
-    ensures { (result ≡ bit b) × (result ≤ 1) }
-{
-    if b { 1 } else { 0 }
+impl Entry {
+    // The whole document, which is its last row.
+    pub fn whole(count: usize) -> Entry
+        requires { 0 < count }
+        ensures { result ≡ whole_entry count }
+    {
+        Entry {
+            row: count - 1,
+            nest: 0,
+            flat: false,
+            next: 0,
+        }
+    }
+
+    // The left child of a join.
+    pub fn left_child(self, rows: &[u32]) -> Entry
+        requires { ((0 < self.row) × (self.row * 7 ≤ length rows.now)) × (self.next < 4611686018427387904) }
+        ensures { result ≡ left_child rows.now self }
+    {
+        Entry {
+            row: left_of(rows, self.row),
+            next: next_of_left(rows, self.row, self.next),
+            ..self
+        }
+    }
+
+    // The row before it: the right child of a join, the child of a nest or a group.
+    pub fn last_child(self, nest: usize, flat: bool) -> Entry
+        requires { 0 < self.row }
+        ensures { result ≡ last_child self nest flat }
+    {
+        Entry {
+            row: self.row - 1,
+            nest,
+            flat,
+            ..self
+        }
+    }
 }
 
 // Puts an entry at a place of the stack.
@@ -27,12 +63,10 @@ pub fn put(pending: &mut [u32], at: usize, e: Entry)
     requires { (at * 3 + 3 ≤ length pending.old) × (e.nest < 4294967296) }
     ensures { left pending ≡ put_at (was pending) at e }
 {
-    let row = low(e.row);
-    let nest = low(e.nest * 2 + one_if(e.flat));
-    let next = low(e.next);
-    pending[at * 3] = row;
-    pending[at * 3 + 1] = nest;
-    pending[at * 3 + 2] = next;
+    let at = at * 3;
+    pending[at] = low(e.row);
+    pending[at + 1] = low(e.nest * 2 + usize::from(e.flat));
+    pending[at + 2] = low(e.next);
 }
 
 // The entry at a place of the stack.
@@ -40,13 +74,12 @@ pub fn entry_at(pending: &[u32], at: usize) -> Entry
     requires { at * 3 + 3 ≤ length pending.now }
     ensures { result ≡ entry_at pending.now at }
 {
-    let row = pending[at * 3] as usize;
-    let nest = pending[at * 3 + 1] as usize;
-    let next = pending[at * 3 + 2] as usize;
+    let at = at * 3;
+    let nest = pending[at + 1];
     Entry {
-        row,
-        nest: nest / 2,
+        row: pending[at] as usize,
+        nest: nest as usize / 2,
         flat: nest % 2 == 1,
-        next,
+        next: pending[at + 2] as usize,
     }
 }

@@ -1,41 +1,45 @@
 // What a layout answers, as eight numbers: number and place, and the six counts.
-use layout::Laid;
-use layout_pending::LaidPending;
+use layout::{Counts, LayoutError};
+use layout_pending::PendingError;
 use std::io;
 
-pub fn numbers(a: Laid) -> [usize; 8] {
-    match a {
-        Laid::Done { counts } => [
-            0,
-            0,
-            counts.rows,
-            counts.text,
-            counts.length,
-            counts.lines,
-            counts.longest,
-            counts.tests,
-        ],
-        Laid::Document { row } => [9, row, 0, 0, 0, 0, 0, 0],
-        Laid::Width => [6, 0, 0, 0, 0, 0, 0, 0],
-        Laid::Listing => [22, 0, 0, 0, 0, 0, 0, 0],
+pub type Numbers = [usize; 8];
+
+fn listed(counts: Counts) -> Numbers {
+    [
+        0,
+        0,
+        counts.rows,
+        counts.text,
+        counts.length,
+        counts.lines,
+        counts.longest,
+        counts.tests,
+    ]
+}
+
+fn refused(error: LayoutError) -> Numbers {
+    match error {
+        LayoutError::Document { row } => [9, row, 0, 0, 0, 0, 0, 0],
+        LayoutError::Width => [6, 0, 0, 0, 0, 0, 0, 0],
+        LayoutError::Listing => [22, 0, 0, 0, 0, 0, 0, 0],
+    }
+}
+
+pub fn numbers(answer: Result<Counts, LayoutError>) -> Numbers {
+    match answer {
+        Ok(counts) => listed(counts),
+        Err(error) => refused(error),
     }
 }
 
 // The same of the second layout.
-pub fn numbers_pending(a: LaidPending) -> [usize; 8] {
-    match a {
-        LaidPending::Laid { laid } => numbers(laid),
-        LaidPending::PendingArea => [30, 0, 0, 0, 0, 0, 0, 0],
+pub fn numbers_pending(answer: Result<Counts, PendingError>) -> Numbers {
+    match answer {
+        Ok(counts) => listed(counts),
+        Err(PendingError::Layout { error }) => refused(error),
+        Err(PendingError::PendingArea) => [30, 0, 0, 0, 0, 0, 0, 0],
     }
-}
-
-pub fn same(a: [usize; 8], b: [usize; 8]) -> bool {
-    for i in 0..8usize {
-        if a[i] != b[i] {
-            return false;
-        }
-    }
-    true
 }
 
 pub fn show(rt: &impl Print, a: &[usize]) -> io::Result<()> {

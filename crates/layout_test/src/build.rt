@@ -1,6 +1,7 @@
 // Documents from a byte a row, in the order of the rows: j a join, g a group, n a nest of 2, a digit a break of so many blanks; any other
 // byte a text, which the input has at word four times the byte.
-use document::sink::{Sink, clear, put_break, put_group, put_join, put_nest, put_text, start};
+use document::sink::Sink;
+use document::written::Written;
 use records::{bytes, field};
 
 fn text_of(data: &[u8], code: u8) -> &[u8] {
@@ -8,22 +9,21 @@ fn text_of(data: &[u8], code: u8) -> &[u8] {
     bytes(data, at, 1, field(data, at, 0))
 }
 
-fn put(data: &[u8], code: u8, rows: &mut [u32], text: &mut [u8], s: Sink) -> Sink {
+fn put(data: &[u8], code: u8, sink: &mut Sink<'_>) {
     match code {
-        b'j' => put_join(rows, text, s),
-        b'g' => put_group(rows, text, s),
-        b'n' => put_nest(rows, text, s, 2),
-        b'0' => put_break(rows, text, s, 0),
-        b'1' => put_break(rows, text, s, 1),
-        _ => put_text(rows, text, s, text_of(data, code)),
+        b'j' => sink.put_join(),
+        b'g' => sink.put_group(),
+        b'n' => sink.put_nest(2),
+        b'0' => sink.put_break(0),
+        b'1' => sink.put_break(1),
+        _ => sink.put_text(text_of(data, code)),
     }
 }
 
-pub fn build(data: &[u8], codes: &[u8], rows: &mut [u32], text: &mut [u8]) -> Sink {
-    clear(rows, text);
-    let mut s = start();
+pub fn build(data: &[u8], codes: &[u8], rows: &mut [u32], text: &mut [u8]) -> Written {
+    let mut sink = Sink::new(rows, text);
     for code in codes {
-        s = put(data, *code, rows, text, s);
+        put(data, *code, &mut sink);
     }
-    s
+    sink.written
 }

@@ -1,27 +1,24 @@
 // Levels, sorts and level lists to documents.
 ghost use Rattle.std.specs.Prelude.{◌≡◌, map, ◌-◌, ◌<◌, ◌≤◌};
-ghost use Rattle.document.specs.Sink.{Leaves, put_break, emit};
+ghost use Rattle.document.specs.Leaves.{Leaves};
+ghost use Rattle.document.specs.Sink.{put_text, put_break, put_join, emit};
 ghost use Rattle.pool.specs.Tables.{L, K, Q, level_word};
 ghost use Rattle.pool.specs.Unfold.{level_at, levels_from, list_at};
-ghost use Rattle.pool.specs.Areas.{lent};
-ghost use Rattle.pool.specs.Ready.{Ready};
-ghost use Rattle.pieces.specs.Words.{word_at};
+ghost use Rattle.pool.specs.Views.{lent};
+ghost use Rattle.utf8.specs.Quoted.{bytes};
 ghost use Rattle.pieces.specs.Docs.{◌⊹◌, quoted, G, under, tile};
 ghost use Rattle.pieces.specs.Tiles.{end_tile, put_tile};
-ghost use Rattle.levels.specs.Counted.{Counted};
+ghost use Rattle.levels.specs.Counted.{Counted, max_text};
 ghost use Rattle.levels.specs.Levels.{plus, level_par, sort_doc, levels_doc};
 
-use document::sink::{Sink, put_break, put_group, put_join};
+use document::sink::Sink;
 use names::names::pp_name_safe;
 use pieces::digits::put_number;
 use pieces::parens::{close_paren, open_paren};
-use pieces::words::{
-    BLANK, CLOSE_BRACE, DOT, EMPTY, MAX, OPEN_BRACE, PLUS, SORT, TYPE, end_tile, join_line,
-    join_word, put_word,
-};
-use pool::fields::{level_first, level_kind, level_second, list_length, list_offset};
+use pieces::words::{end_tile, join_line, join_word, put_word};
+use pool::checked::CheckedPool;
+use pool::fields::{LEVEL_FIRST, LEVEL_KIND, LEVEL_SECOND, LIST_LENGTH, LIST_OFFSET};
 use pool::kinds::{LEVEL_MAX, LEVEL_PARAM, LEVEL_SUCC, LEVEL_ZERO};
-use pool::tables::{Tables, list_entry};
 
 // A level that is no successor, and how many successors of it are meant.
 #[derive(Clone, Copy)]
@@ -31,14 +28,14 @@ pub struct Succs {
 }
 
 // The level at row r as successors of another.
-fn level_succs(bytes: &[u8], names: &[u32], words: &[u32], t: Tables, r: usize) -> Succs
-    requires { (Ready bytes.now names.now words.now t) × (r < L words.now) }
-    ensures { Counted bytes.now names.now words.now r result }
+fn level_succs(pool: &CheckedPool<'_>, r: usize) -> Succs
+    requires { (r < L (lent pool.now).words) }
+    ensures { Counted (lent pool.now) r result }
 {
     let mut at = r;
     let mut n: u64 = 0;
-    while level_kind(words, t, at) == LEVEL_SUCC {
-        at = level_first(words, t, at);
+    while pool.words.level(at, LEVEL_KIND) == LEVEL_SUCC {
+        at = pool.words.level(at, LEVEL_FIRST);
         n += 1;
     }
     Succs { base: at, count: n }
@@ -46,253 +43,161 @@ fn level_succs(bytes: &[u8], names: &[u32], words: &[u32], t: Tables, r: usize) 
 
 // A sink that has stopped is handed back at once: rows may repeat, and without this a walk of them could take exponential time.
 #[cycle(levels)]
-pub fn pp_level(
-    bytes: &[u8],
-    names: &[u32],
-    words: &[u32],
-    t: Tables,
-    rows: &mut [u32],
-    text: &mut [u8],
-    s: Sink,
-    r: usize,
-    outer: usize,
-) -> Sink
-    requires { (Ready bytes.now names.now words.now t) × (r < L words.now) × (outer ≤ 1024) }
-    ensures { Leaves rows text s result (emit (under outer (level_par (level_at (lent bytes names words) r)))) }
+pub fn pp_level(pool: &CheckedPool<'_>, sink: &mut Sink<'_>, r: usize, outer: usize)
+    requires { (r < L (lent pool.now).words) × (outer ≤ 1024) }
+    ensures { Leaves sink.old sink.new (emit (under outer (level_par (level_at (lent pool.now) r)))) }
 {
-    if s.stop != 0 {
-        return s;
+    if sink.is_stopped() {
+        return;
     }
-    let l = level_succs(bytes, names, words, t, r);
+    let l = level_succs(pool, r);
     let base = l.base;
     if l.count == 0 {
-        return pp_base(bytes, names, words, t, rows, text, s, base, outer);
+        return pp_base(pool, sink, base, outer);
     }
-    if level_kind(words, t, base) == LEVEL_ZERO {
-        return put_number(rows, text, s, l.count);
+    if pool.words.level(base, LEVEL_KIND) == LEVEL_ZERO {
+        return put_number(sink, l.count);
     }
-    put_plus(bytes, names, words, t, rows, text, s, base, l.count, outer)
+    put_plus(pool, sink, base, l.count, outer)
 }
 
 // A level that is no successor.
 #[cycle(levels)]
-fn pp_base(
-    bytes: &[u8],
-    names: &[u32],
-    words: &[u32],
-    t: Tables,
-    rows: &mut [u32],
-    text: &mut [u8],
-    s: Sink,
-    r: usize,
-    outer: usize,
-) -> Sink
-    requires { (Ready bytes.now names.now words.now t) × (r < L words.now) × (outer ≤ 1024)
-        × (level_word words.now r 0 ≡ 1 → ⊥) }
-    ensures { Leaves rows text s result (emit (under outer (level_par (level_at (lent bytes names words) r)))) }
+fn pp_base(pool: &CheckedPool<'_>, sink: &mut Sink<'_>, r: usize, outer: usize)
+    requires { (r < L (lent pool.now).words) × (outer ≤ 1024)
+        × (level_word (lent pool.now).words r 0 ≡ 1 → ⊥) }
+    ensures { Leaves sink.old sink.new (emit (under outer (level_par (level_at (lent pool.now) r)))) }
 {
-    let kind = level_kind(words, t, r);
+    let kind = pool.words.level(r, LEVEL_KIND);
     if kind == LEVEL_ZERO {
-        return put_number(rows, text, s, 0);
+        return put_number(sink, 0);
     }
     if kind == LEVEL_PARAM {
-        let name = level_first(words, t, r);
-        return pp_name_safe(bytes, names, words, t, rows, text, s, name);
+        let name = pool.words.level(r, LEVEL_FIRST);
+        return pp_name_safe(pool, sink, name);
     }
-    pp_max(bytes, names, words, t, rows, text, s, r, outer)
+    pp_max(pool, sink, r, outer)
 }
 
-// A max (kind 2) or imax (kind 3).
-#[cycle(levels)]
-fn pp_max(
-    bytes: &[u8],
-    names: &[u32],
-    words: &[u32],
-    t: Tables,
-    rows: &mut [u32],
-    text: &mut [u8],
-    s: Sink,
-    r: usize,
-    outer: usize,
-) -> Sink
-    requires { (Ready bytes.now names.now words.now t) × (r < L words.now) × (2 ≤ level_word words.now r 0)
-        × (level_word words.now r 0 < 4) }
-    ensures { Leaves rows text s result (emit (under outer (level_par (level_at (lent bytes names words) r)))) }
+// The word of a max or an imax.
+fn max_word(kind: usize) -> &'static [u8]
+    ensures { result.now ≡ max_text kind }
 {
-    let kind = level_kind(words, t, r);
-    let left = level_first(words, t, r);
-    let right = level_second(words, t, r);
+    if kind == LEVEL_MAX {
+        return b"max";
+    }
+    b"imax"
+}
+
+// A max or an imax.
+#[cycle(levels)]
+fn pp_max(pool: &CheckedPool<'_>, sink: &mut Sink<'_>, r: usize, outer: usize)
+    requires { (r < L (lent pool.now).words) × (2 ≤ level_word (lent pool.now).words r 0)
+        × (level_word (lent pool.now).words r 0 < 4) }
+    ensures { Leaves sink.old sink.new (emit (under outer (level_par (level_at (lent pool.now) r)))) }
+{
+    let kind = pool.words.level(r, LEVEL_KIND);
+    let left = pool.words.level(r, LEVEL_FIRST);
+    let right = pool.words.level(r, LEVEL_SECOND);
     let open = 0 < outer;
-    let s = open_paren(rows, text, s, open);
-    let s = put_word(rows, text, s, MAX + (kind - LEVEL_MAX));
-    let s = join_word(rows, text, s, BLANK);
-    let s = pp_level(bytes, names, words, t, rows, text, s, left, 1);
-    let s = put_join(rows, text, s);
-    let s = join_line(rows, text, s);
-    let s = pp_level(bytes, names, words, t, rows, text, s, right, 1);
-    let s = put_join(rows, text, s);
-    close_paren(rows, text, s, open)
+    open_paren(sink, open);
+    put_word(sink, max_word(kind));
+    join_word(sink, b" ");
+    pp_level(pool, sink, left, 1);
+    sink.put_join();
+    join_line(sink);
+    pp_level(pool, sink, right, 1);
+    sink.put_join();
+    close_paren(sink, open)
 }
 
 // Some successors of a level that is none, and not zero.
 #[cycle(levels)]
-fn put_plus(
-    bytes: &[u8],
-    names: &[u32],
-    words: &[u32],
-    t: Tables,
-    rows: &mut [u32],
-    text: &mut [u8],
-    s: Sink,
-    base: usize,
-    count: u64,
-    outer: usize,
-) -> Sink
-    requires { (Ready bytes.now names.now words.now t) × (base < L words.now) × (level_word words.now base 0 ≡ 1 → ⊥)
+fn put_plus(pool: &CheckedPool<'_>, sink: &mut Sink<'_>, base: usize, count: u64, outer: usize)
+    requires { (base < L (lent pool.now).words) × (level_word (lent pool.now).words base 0 ≡ 1 → ⊥)
         × (0 < count) }
-    ensures { Leaves rows text s result (emit (under outer (plus (level_par (level_at (lent bytes names words) base)) count))) }
+    ensures { Leaves sink.old sink.new (emit (under outer (plus (level_par (level_at (lent pool.now) base)) count))) }
 {
-    let s = open_paren(rows, text, s, 0 < outer);
-    let s = pp_base(bytes, names, words, t, rows, text, s, base, 1);
-    let s = join_word(rows, text, s, PLUS);
-    let s = put_number(rows, text, s, count);
-    let s = put_join(rows, text, s);
-    close_paren(rows, text, s, 0 < outer)
+    open_paren(sink, 0 < outer);
+    pp_base(pool, sink, base, 1);
+    join_word(sink, b"+");
+    put_number(sink, count);
+    sink.put_join();
+    close_paren(sink, 0 < outer)
 }
 
-fn put_sort(
-    bytes: &[u8],
-    names: &[u32],
-    words: &[u32],
-    t: Tables,
-    rows: &mut [u32],
-    text: &mut [u8],
-    s: Sink,
-    w: usize,
-    r: usize,
-) -> Sink
-    requires { (Ready bytes.now names.now words.now t) × (r < L words.now) × (w < 41) }
-    ensures { Leaves rows text s result (emit (quoted (word_at w) ⊹ quoted " " ⊹ under 1024
-        (level_par (level_at (lent bytes names words) r)))) }
+// A sort's word, and its level.
+fn put_sort(pool: &CheckedPool<'_>, sink: &mut Sink<'_>, word: &[u8], r: usize)
+    requires { r < L (lent pool.now).words }
+    ensures { Leaves sink.old sink.new (λ st. put_join (emit (under 1024 (level_par (level_at (lent pool.now) r)))
+        (put_join (put_text (bytes " ") (put_text word.now st))))) }
 {
-    let s = put_word(rows, text, s, w);
-    let s = join_word(rows, text, s, BLANK);
-    let s = pp_level(bytes, names, words, t, rows, text, s, r, 1024);
-    put_join(rows, text, s)
+    put_word(sink, word);
+    join_word(sink, b" ");
+    pp_level(pool, sink, r, 1024);
+    sink.put_join();
 }
 
 // The sort of the level at row r.
-pub fn pp_sort(
-    bytes: &[u8],
-    names: &[u32],
-    words: &[u32],
-    t: Tables,
-    rows: &mut [u32],
-    text: &mut [u8],
-    s: Sink,
-    r: usize,
-) -> Sink
-    requires { (Ready bytes.now names.now words.now t) × (r < L words.now) }
-    ensures { Leaves rows text s result (emit (sort_doc (level_at (lent bytes names words) r))) }
+pub fn pp_sort(pool: &CheckedPool<'_>, sink: &mut Sink<'_>, r: usize)
+    requires { r < L (lent pool.now).words }
+    ensures { Leaves sink.old sink.new (emit (sort_doc (level_at (lent pool.now) r))) }
 {
-    if level_kind(words, t, r) == LEVEL_SUCC {
-        let below = level_first(words, t, r);
-        return put_sort(bytes, names, words, t, rows, text, s, TYPE, below);
+    if pool.words.level(r, LEVEL_KIND) == LEVEL_SUCC {
+        let below = pool.words.level(r, LEVEL_FIRST);
+        return put_sort(pool, sink, b"Type", below);
     }
-    put_sort(bytes, names, words, t, rows, text, s, SORT, r)
+    put_sort(pool, sink, b"Sort", r);
 }
 
 // The next level of a tile.
-fn put_next_level(
-    bytes: &[u8],
-    names: &[u32],
-    words: &[u32],
-    t: Tables,
-    rows: &mut [u32],
-    text: &mut [u8],
-    s: Sink,
-    r: usize,
-) -> Sink
-    requires { (Ready bytes.now names.now words.now t) × (r < L words.now) }
-    ensures { Leaves rows text s result (λ st. end_tile (emit (under 0 (level_par (level_at (lent bytes names words) r)))
+fn put_next_level(pool: &CheckedPool<'_>, sink: &mut Sink<'_>, r: usize)
+    requires { (r < L (lent pool.now).words) }
+    ensures { Leaves sink.old sink.new (λ st. end_tile (emit (under 0 (level_par (level_at (lent pool.now) r)))
         (put_break 1 st))) }
 {
-    let s = put_break(rows, text, s, 1);
-    let s = pp_level(bytes, names, words, t, rows, text, s, r, 0);
-    end_tile(rows, text, s)
+    sink.put_break(1);
+    pp_level(pool, sink, r, 0);
+    end_tile(sink)
 }
 
 // The levels of the list words from `from` to `to`, after the first of a tile.
-fn put_next_levels(
-    bytes: &[u8],
-    names: &[u32],
-    words: &[u32],
-    t: Tables,
-    rows: &mut [u32],
-    text: &mut [u8],
-    s: Sink,
-    from: usize,
-    to: usize,
-) -> Sink
-    requires { (Ready bytes.now names.now words.now t) × (from ≤ to) × (to ≤ Q words.now) }
-    ensures { Leaves rows text s result (put_tile (map (λ x. under 0 (level_par x))
-        (levels_from (lent bytes names words) from (to - from)))) }
+fn put_next_levels(pool: &CheckedPool<'_>, sink: &mut Sink<'_>, from: usize, to: usize)
+    requires { (from ≤ to) × (to ≤ Q (lent pool.now).words) }
+    ensures { Leaves sink.old sink.new (put_tile (map (λ x. under 0 (level_par x))
+        (levels_from (lent pool.now) from (to - from)))) }
 {
-    let mut o = s;
-    let mut i = from;
-    while i < to {
-        let level = list_entry(words, t, i);
-        o = put_next_level(bytes, names, words, t, rows, text, o, level);
-        i += 1;
+    for i in from..to {
+        put_next_level(pool, sink, pool.words.entry(i));
     }
-    o
 }
 
 // The levels of the list words from `from` to `to`, at least one, in braces.
-fn pp_levels(
-    bytes: &[u8],
-    names: &[u32],
-    words: &[u32],
-    t: Tables,
-    rows: &mut [u32],
-    text: &mut [u8],
-    s: Sink,
-    from: usize,
-    to: usize,
-) -> Sink
-    requires { (Ready bytes.now names.now words.now t) × (from < to) × (to ≤ Q words.now) }
-    ensures { Leaves rows text s result (emit (G (quoted "{" ⊹ tile
-        (map (λ x. under 0 (level_par x)) (levels_from (lent bytes names words) from (to - from))) ⊹ quoted "}"))) }
+fn pp_levels(pool: &CheckedPool<'_>, sink: &mut Sink<'_>, from: usize, to: usize)
+    requires { (from < to) × (to ≤ Q (lent pool.now).words) }
+    ensures { Leaves sink.old sink.new (emit (G (quoted "{" ⊹ tile
+        (map (λ x. under 0 (level_par x)) (levels_from (lent pool.now) from (to - from))) ⊹ quoted "}"))) }
 {
-    let s = put_word(rows, text, s, OPEN_BRACE);
-    let first = list_entry(words, t, from);
-    let s = pp_level(bytes, names, words, t, rows, text, s, first, 0);
-    let s = put_next_levels(bytes, names, words, t, rows, text, s, from + 1, to);
-    let s = put_join(rows, text, s);
-    let s = join_word(rows, text, s, CLOSE_BRACE);
-    put_group(rows, text, s)
+    put_word(sink, b"{");
+    let first = pool.words.entry(from);
+    pp_level(pool, sink, first, 0);
+    put_next_levels(pool, sink, from + 1, to);
+    sink.put_join();
+    join_word(sink, b"}");
+    sink.put_group()
 }
 
 // What follows a declaration's name: the levels of list row r.
-pub fn pp_uparams(
-    bytes: &[u8],
-    names: &[u32],
-    words: &[u32],
-    t: Tables,
-    rows: &mut [u32],
-    text: &mut [u8],
-    s: Sink,
-    r: usize,
-) -> Sink
-    requires { (Ready bytes.now names.now words.now t) × (r < K words.now) }
-    ensures { Leaves rows text s result (emit (levels_doc (list_at (lent bytes names words) r))) }
+pub fn pp_uparams(pool: &CheckedPool<'_>, sink: &mut Sink<'_>, r: usize)
+    requires { (r < K (lent pool.now).words) }
+    ensures { Leaves sink.old sink.new (emit (levels_doc (list_at (lent pool.now) r))) }
 {
-    let from = list_offset(words, t, r);
-    let count = list_length(words, t, r);
+    let from = pool.words.list(r, LIST_OFFSET);
+    let count = pool.words.list(r, LIST_LENGTH);
     if count == 0 {
-        return put_word(rows, text, s, EMPTY);
+        return put_word(sink, b"");
     }
-    let s = put_word(rows, text, s, DOT);
-    let s = pp_levels(bytes, names, words, t, rows, text, s, from, from + count);
-    put_join(rows, text, s)
+    put_word(sink, b".");
+    pp_levels(pool, sink, from, from + count);
+    sink.put_join()
 }

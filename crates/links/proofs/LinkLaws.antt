@@ -1,12 +1,14 @@
 -- Laws of what arrays owe.
-use Prim.Native.Nat.{ℕ, zero, suc, ◌+◌, ◌-◌, ◌<◌, ◌≤◌, min, max}
+use Prim.Native.Nat.{ℕ, zero, suc, ◌+◌, ◌<◌, ◌≤◌, min, max}
 use native.Mathlib.Omega.{arith}
 use native.Mathlib.Numerals.{add-one}
 use mathlib.Core.Bool.{Bool, true, false}
-use mathlib.Core.List.{List, [], ◌∷◌}
+use Rattle.std.specs.Prelude.{Option, Some, None}
+use mathlib.Core.List.{List}
 use mathlib.Core.Path.{◌≡◌, refl, sym, ap, ◌∙◌, subst}
 use borrow.Author.Tests.{eqb-true, eqb-false, ltb-true, ltb-false}
 use lib.Dec.{eqb, ltb}
+use Rattle.std.proofs.lemmas.List.{get_or_past}
 use lib.ListN.{length, get_or, set, replicate}
 use lib.Seq.{set_out, get_or-set_same, get_or-set_other}
 use Rattle.pool.specs.Tree.{Shape}
@@ -101,46 +103,39 @@ module _ (l after : List ℕ) (x y high low : ℕ) (eh : high ≡ max x y) (el :
       })
 
   -- or it owes to be m
-  pub link_again : (m v : ℕ) (mid : List ℕ) → m ≡ get_or l high 0 → (m ≡ 0 → ⊥) → v ≡ min low (m - 1) → mid ≡ set l high (v + 1) → Linked mid after low (m - 1)
-      → Linked l after x y
-  link_again zero v mid em n ev e g = absurd (n refl)
-  link_again (suc k) v mid em n ev e g =
-      let one : suc k - 1 ≡ k = omega arith in
+  pub link_again : (m v : ℕ) (mid : List ℕ) → suc m ≡ get_or l high 0 → v ≡ min low m → mid ≡ set l high (v + 1) → Linked mid after low m → Linked l after x y
+  link_again m v mid em ev e g =
       let d : (S : ℕ → Shape) → Owes S S after → Owes S S (set l high (v + 1)) = λ S o. subst (Owes S S) e (g.down S o) in
-      let lows : (S : ℕ → Shape) → Owes S S after → S low ≡ S k = λ S o. g.tied S o ∙ ap S one in
-      let lowest : (S : ℕ → Shape) → S low ≡ S k → (S v ≡ S low) × (S v ≡ S k) =
-      λ S q. subst (λ (i : ℕ). (S i ≡ S low) × (S i ≡ S k)) (sym (ev ∙ ap (min low) one)) (lower_is S low k q) in
+      let lowest : (S : ℕ → Shape) → S low ≡ S m → (S v ≡ S low) × (S v ≡ S m) =
+      λ S q. subst (λ (i : ℕ). (S i ≡ S low) × (S i ≡ S m)) (sym ev) (lower_is S low m q) in
       record {
         down = λ S o. set_down S S l high (v + 1) h (d S o)
-            (λ m q. set_says S S l high (v + 1) h (d S o) v (add-one v) ∙ (lowest S (lows S o)).1 ∙ ap S (let n : k ≡ m = (let f : suc k ≡ suc m = em ∙ q in omega arith) in n));
-        tied = λ S o. tie S (set_says S S l high (v + 1) h (d S o) v (add-one v) ∙ (lowest S (lows S o)).0);
+            (λ i q. set_says S S l high (v + 1) h (d S o) v (add-one v) ∙ (lowest S (g.tied S o)).1 ∙ ap S (let n : m ≡ i = (let f : suc m ≡ suc i = em ∙ q in omega arith) in n));
+        tied = λ S o. tie S (set_says S S l high (v + 1) h (d S o) v (add-one v) ∙ (lowest S (g.tied S o)).0);
         up = λ S o q.
-            let hk : S high ≡ S k = o high k (sym em) in
-            let lk : S low ≡ S k = sym (untie S q) ∙ hk in
-            g.up S (subst (Owes S S) (sym e) (set-up S S l high (v + 1) h o (λ m r. hk ∙ sym (lowest S lk).1 ∙ ap S (let n : v ≡ m = omega arith in n))))
-            (lk ∙ ap S (sym one));
+            let hm : S high ≡ S m = o high m (sym em) in
+            let lm : S low ≡ S m = sym (untie S q) ∙ hm in
+            g.up S (subst (Owes S S) (sym e) (set-up S S l high (v + 1) h o (λ i r. hm ∙ sym (lowest S lm).1 ∙ ap S (let n : v ≡ i = omega arith in n)))) lm;
       }
 
 -- ---- an array of its own
 
 module _ (array owed : List ℕ) (x y : ℕ) (h : x < length array) where
-  pub put_first : (m : ℕ) (after : List ℕ) → m ≡ get_or array x 0 → m ≡ 0 → after ≡ set array x (y + 1) → Put array owed after owed x y
-  put_first m after em z e =
+  pub put_first : (after : List ℕ) → get_or array x 0 ≡ 0 → after ≡ set array x (y + 1) → Put array owed after owed x y
+  put_first after z e =
       subst (λ (k : List ℕ). Put array owed k owed x y) (sym e)
       (record {
-        down = λ F S o q. (set_down F S array x (y + 1) h o (λ i r. absurd (let n : 0 ≡ suc i = sym z ∙ em ∙ r in omega arith)), q);
+        down = λ F S o q. (set_down F S array x (y + 1) h o (λ i r. absurd (let n : 0 ≡ suc i = sym z ∙ r in omega arith)), q);
         tied = λ F S o q. set_says F S array x (y + 1) h o y (add-one y);
         up = λ F S o q r. (set-up F S array x (y + 1) h o (λ i s. r ∙ ap S (let n : y ≡ i = omega arith in n)), q);
       })
 
-  pub put_again : (m : ℕ) (owed' : List ℕ) → m ≡ get_or array x 0 → (m ≡ 0 → ⊥) → Linked owed owed' (m - 1) y → Put array owed array owed' x y
-  put_again zero owed' em n g = absurd (n refl)
-  put_again (suc k) owed' em n g =
-      let one : suc k - 1 ≡ k = omega arith in
+  pub put_again : (m : ℕ) (owed' : List ℕ) → suc m ≡ get_or array x 0 → Linked owed owed' m y → Put array owed array owed' x y
+  put_again m owed' em g =
       record {
         down = λ F S o q. (o, g.down S q);
-        tied = λ F S o q. o x k (sym em) ∙ ap S (sym one) ∙ g.tied S q;
-        up = λ F S o q r. (o, g.up S q (ap S one ∙ sym (o x k (sym em)) ∙ r));
+        tied = λ F S o q. o x m (sym em) ∙ g.tied S q;
+        up = λ F S o q r. (o, g.up S q (sym (o x m (sym em)) ∙ r));
       }
 
 -- ---- taking out
@@ -169,76 +164,72 @@ zeros_clear zero x = refl
 zeros_clear (suc n) zero = refl
 zeros_clear (suc n) (suc x) = zeros_clear n x
 
-pub past : (l : List ℕ) (i : ℕ) → length l ≤ i → get_or l i 0 ≡ 0
-past [] i h = refl
-past (x ∷ l) zero h = absurd (omega arith)
-past (x ∷ l) (suc i) h = past l i (omega arith)
-
-pub all_clear : (l : List ℕ) (i : ℕ) → ((x : ℕ) → x < i → get_or l x 0 ≡ 0) → length l ≤ i → Clear l
-all_clear l i f h x = by (ltb x i) refl
+-- no entry is more than 0
+pub all_clear : (l : List ℕ) (most i : ℕ) → ((x : ℕ) → x < i → get_or l x 0 ≤ most) → length l ≤ i → most ≡ 0 → Clear l
+all_clear l most i f h z x = by (ltb x i) refl
   where
     by : (b : Bool) → ltb x i ≡ b → get_or l x 0 ≡ 0
-    by true q = f x (ltb-true x i q)
-    by false q = past l x (let g : i ≤ x = ltb-false x i q in omega arith)
+    by true q = let g : get_or l x 0 ≤ most = f x (ltb-true x i q) in omega arith
+    by false q = get_or_past l x 0 (let g : i ≤ x = ltb-false x i q in omega arith)
 
 -- ---- the pass
 
 module _ (S : ℕ → Shape) (before : List ℕ) where
-  pub gives_up : Settled S before 2
-  gives_up = record { refuted = λ e. absurd (omega arith); holds = λ e. absurd (omega arith) }
+  pub gives_up : Settled S before None
+  gives_up = record { refuted = λ e. cc; holds = λ e. cc }
 
-  pub no_step : (after : List ℕ) → Stepped S before after 2
-  no_step after = record { refuted = λ e. absurd (omega arith); down = λ e. absurd (omega arith); up = λ e. absurd (omega arith) }
+  pub no_step : (after : List ℕ) → Stepped S before after None
+  no_step after = record { refuted = λ e. cc; down = λ e. cc; up = λ e. cc }
 
   module _ (now : List ℕ) (down : Owes S S now → Owes S S before) (up : Owes S S before → Owes S S now) where
-    pub pass_stops : (after : List ℕ) (v : ℕ) → Stepped S now after v → (v ≡ 1 → ⊥) → Settled S before v
+    pub pass_stops : (after : List ℕ) (v : Option Bool) → Stepped S now after v → (v ≡ Some true → ⊥) → Settled S before v
     pass_stops after v s n = record { refuted = λ e o. s.refuted e (up o); holds = λ e. absurd (n e) }
 
-    pub pass_down : (after : List ℕ) (v : ℕ) → Stepped S now after v → v ≡ 1 → Owes S S after → Owes S S before
+    pub pass_down : (after : List ℕ) (v : Option Bool) → Stepped S now after v → v ≡ Some true → Owes S S after → Owes S S before
     pass_down after v s e o = down (s.down e o)
 
-    pub pass_up : (after : List ℕ) (v : ℕ) → Stepped S now after v → v ≡ 1 → Owes S S before → Owes S S after
+    pub pass_up : (after : List ℕ) (v : Option Bool) → Stepped S now after v → v ≡ Some true → Owes S S before → Owes S S after
     pass_up after v s e o = s.up e (up o)
 
-    pub pass_ends : Clear now → Settled S before 1
-    pass_ends c = record { refuted = λ e. absurd (omega arith); holds = λ e. down (clear_owes S S now c) }
+    pub pass_ends : Clear now → Settled S before (Some true)
+    pass_ends c = record { refuted = λ e. cc; holds = λ e. down (clear_owes S S now c) }
 
 -- a row that owes nothing
-pub step_none : (S : ℕ → Shape) (before after : List ℕ) (x m : ℕ) → m ≡ get_or before x 0 → after ≡ set before x 0 → m ≡ 0 → Stepped S before after 1
-step_none S before after x m em e z =
-    subst (λ (l : List ℕ). Stepped S before l 1) (sym e)
+pub step_none : (S : ℕ → Shape) (before after : List ℕ) (x : ℕ) → get_or before x 0 ≡ 0 → after ≡ set before x 0 → Stepped S before after (Some true)
+step_none S before after x z e =
+    subst (λ (l : List ℕ). Stepped S before l (Some true)) (sym e)
     (record {
-      refuted = λ q. absurd (omega arith);
-      down = λ q o. take_down S S before x o (λ i r. absurd (let n : 0 ≡ suc i = sym z ∙ em ∙ r in omega arith));
+      refuted = λ q. cc;
+      down = λ q o. take_down S S before x o (λ i r. absurd (let n : 0 ≡ suc i = sym z ∙ r in omega arith));
       up = λ q o. take-up S S before x o;
     })
 
--- a row that owes to be m - 1, and where that is equal or not at a glance; or is so where two other pairs of rows are
-module _ (S : ℕ → Shape) (before mid : List ℕ) (x m : ℕ) (em : m ≡ get_or before x 0) (e : mid ≡ set before x 0) (nz : m ≡ 0 → ⊥) where
-  its : Owes S S before → S x ≡ S (m - 1)
-  its o = o x (m - 1) (sym em ∙ (let n : m ≡ suc (m - 1) = omega (arith, nz) in n))
+-- a row that owes to be m, and where that is equal or not at a glance; or is so where two other pairs of rows are
+module _ (S : ℕ → Shape) (before mid : List ℕ) (x m : ℕ) (em : suc m ≡ get_or before x 0) (e : mid ≡ set before x 0) where
+  its : Owes S S before → S x ≡ S m
+  its o = o x m (sym em)
 
-  back : Owes S S mid → S x ≡ S (m - 1) → Owes S S before
-  back o q = take_down S S before x (subst (Owes S S) e o) (λ i r. q ∙ ap S (let n : m - 1 ≡ i = (let f : m ≡ suc i = em ∙ r in omega arith) in n))
+  back : Owes S S mid → S x ≡ S m → Owes S S before
+  back o q = take_down S S before x (subst (Owes S S) e o) (λ i r. q ∙ ap S (let n : m ≡ i = (let f : suc m ≡ suc i = em ∙ r in omega arith) in n))
 
   forth : Owes S S before → Owes S S mid
   forth o = subst (Owes S S) (sym e) (take-up S S before x o)
 
-  pub step_quick : (v : ℕ) → (v ≡ 0 → S x ≡ S (m - 1) → ⊥) → (v ≡ 1 → S x ≡ S (m - 1)) → Stepped S before mid v
+  pub step_quick : (v : Option Bool) → (v ≡ Some false → S x ≡ S m → ⊥) → (v ≡ Some true → S x ≡ S m) → Stepped S before mid v
   step_quick v f g = record { refuted = λ q o. f q (its o); down = λ q o. back o (g q); up = λ q o. forth o }
 
   pub step_links : (after₁ after₂ : List ℕ) (x₁ y₁ x₂ y₂ : ℕ) → Linked mid after₁ x₁ y₁ → Linked after₁ after₂ x₂ y₂
-      → (S x₁ ≡ S y₁ → S x₂ ≡ S y₂ → S x ≡ S (m - 1)) → (S x ≡ S (m - 1) → (S x₁ ≡ S y₁) × (S x₂ ≡ S y₂)) → Stepped S before after₂ 1
+      → (S x₁ ≡ S y₁ → S x₂ ≡ S y₂ → S x ≡ S m) → (S x ≡ S m → (S x₁ ≡ S y₁) × (S x₂ ≡ S y₂)) → Stepped S before after₂ (Some true)
   step_links after₁ after₂ x₁ y₁ x₂ y₂ l₁ l₂ f g =
       record {
-        refuted = λ q. absurd (omega arith);
+        refuted = λ q. cc;
         down = λ q o. back (l₁.down S (l₂.down S o)) (f (l₁.tied S (l₂.down S o)) (l₂.tied S o));
         up = λ q o. l₂.up S (l₁.up S (forth o) (g (its o)).0) (g (its o)).1;
       }
 
   -- or is so where T is
-  pub step_where : (T : Type 0) → (T → S x ≡ S (m - 1)) → (S x ≡ S (m - 1) → T) → (after : List ℕ) (v : ℕ) → (v ≡ 0 → Owes S S mid → T → ⊥)
-      → (v ≡ 1 → Owes S S after → Owes S S mid × T) → (v ≡ 1 → Owes S S mid → T → Owes S S after) → Stepped S before after v
+  pub step_where : (T : Type 0) → (T → S x ≡ S m) → (S x ≡ S m → T) → (after : List ℕ) (v : Option Bool) → (v ≡ Some false → Owes S S mid → T → ⊥)
+      → (v ≡ Some true → Owes S S after → Owes S S mid × T) → (v ≡ Some true → Owes S S mid → T → Owes S S after) → Stepped S before after v
   step_where T f g after v r d u =
       record {
         refuted = λ q o. r q (forth o) (g (its o));

@@ -1,6 +1,11 @@
 -- What an array owes: that rows have to be equal. S is what a row is, and F what a row is that stands for something else, as its lifted tree.
-use Rattle.std.specs.Prelude.{ℕ, suc, List, ◌≡◌, get_or}
+use Rattle.std.specs.Prelude.{ℕ, suc, Bool, true, false, Option, None, Some, List, ◌≡◌, get_or}
 use Rattle.pool.specs.Tree.{Shape}
+
+-- the row that an entry names: it is one more than the row, or 0 for none
+abbrev pub entry_of : Option ℕ → ℕ
+entry_of None = 0
+entry_of (Some m) = suc m
 
 -- each row is what it owes to be
 abbrev pub Owes : (ℕ → Shape) → (ℕ → Shape) → List ℕ → Type 0
@@ -22,13 +27,13 @@ pub record Put (array owed array' owed' : List ℕ) (x y : ℕ) : Type 0 where
   pub tied : (F S : ℕ → Shape) → Owes F S array' → Owes S S owed' → F x ≡ S y
   pub up : (F S : ℕ → Shape) → Owes F S array → Owes S S owed → F x ≡ S y → Owes F S array' × Owes S S owed'
 
--- a step of the pass from the top row down: 0, what was owed is not so; 1, it is so where what is owed now is; else nothing
-pub record Stepped (S : ℕ → Shape) (before after : List ℕ) (v : ℕ) : Type 0 where
-  pub refuted : v ≡ 0 → Owes S S before → ⊥
-  pub down : v ≡ 1 → Owes S S after → Owes S S before
-  pub up : v ≡ 1 → Owes S S before → Owes S S after
+-- a step of the pass from the top row down: false, what was owed is not so; true, it is so where what is owed now is; else nothing
+pub record Stepped (S : ℕ → Shape) (before after : List ℕ) (v : Option Bool) : Type 0 where
+  pub refuted : v ≡ Some false → Owes S S before → ⊥
+  pub down : v ≡ Some true → Owes S S after → Owes S S before
+  pub up : v ≡ Some true → Owes S S before → Owes S S after
 
--- the whole pass: 0, what was owed is not so; 1, it is so; else nothing
-pub record Settled (S : ℕ → Shape) (before : List ℕ) (v : ℕ) : Type 0 where
-  pub refuted : v ≡ 0 → Owes S S before → ⊥
-  pub holds : v ≡ 1 → Owes S S before
+-- the whole pass: false, what was owed is not so; true, it is so; else nothing
+pub record Settled (S : ℕ → Shape) (before : List ℕ) (v : Option Bool) : Type 0 where
+  pub refuted : v ≡ Some false → Owes S S before → ⊥
+  pub holds : v ≡ Some true → Owes S S before

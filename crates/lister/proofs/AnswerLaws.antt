@@ -8,13 +8,13 @@ use lib.ListN.{length}
 use Rattle.document.specs.Doc.{Doc}
 use Rattle.document.specs.Walk.{Marked, unmarked, Progress, going, stopped, walk}
 use Rattle.layout.specs.declared.Counts.{Counts}
-use Rattle.layout.specs.declared.Laid.TheVariants as laids
+use Rattle.layout.specs.declared.LayoutError.{LayoutError}
 use Rattle.layout.specs.Call as layout
-use Rattle.pool_check.specs.declared.Verdict.{Verdict}
-use Rattle.lister.specs.declared.Answer.{Answer}
-use Rattle.lister.specs.declared.Answer.TheVariants.{Pool}
-use Rattle.lister.specs.Answers.{number, refusal, stop_answer, of_laid}
-use Rattle.pool_check.specs.Check.{is_accepted}
+use Rattle.std.specs.Prelude.{Result, Ok, Err}
+use Rattle.pool_check.specs.declared.PoolError.{PoolError}
+use Rattle.lister.specs.declared.error.PrintError.{PrintError}
+use Rattle.lister.specs.declared.error.PrintError.TheVariants.{Names, Document, RowArea, TextArea}
+use Rattle.lister.specs.Answers.{Answer, of_pool, number, refusal, stop_answer, of_laid}
 use Rattle.lister.specs.Prints.{Areas, Outcome, untouched, document_cleared, document_listed, after_walk, print_doc, checked}
 
 -- a print that has begun answers 0, or 7 and more
@@ -25,7 +25,7 @@ late_stop : (n at : ℕ) → Late (number (stop_answer n at))
 unfolding Late stop_answer number
 late_stop n at = by (eqb n 7) (eqb n 8) (eqb n 20)
   where
-    by : (a b c : Bool) → Late (number (cond a (Answer.Names at) (cond b (Answer.Document at) (cond c (Answer.RowArea at) (Answer.TextArea at)))))
+    by : (a b c : Bool) → Late (number (Err (cond a (Names at) (cond b (Document at) (cond c (RowArea at) (TextArea at))))))
     by true b c = λ h k. omega arith
     by false true c = λ h k. omega arith
     by false false true = λ h k. omega arith
@@ -35,7 +35,7 @@ late_listed : (rows bytes width : ℕ) (d : Doc) (areas : Areas) → Late (numbe
 unfolding Late document_listed layout.listed of_laid number
 late_listed rows bytes width d areas = by (ltb (length areas.listing) _) _
   where
-    by : (full : Bool) (counts : Counts) → Late (number (of_laid (cond full laids.Listing (laids.Done counts))))
+    by : (full : Bool) (counts : Counts) → Late (number (of_laid (cond full (layout.refusal 22 0) (Ok counts))))
     by true counts = λ h k. omega arith
     by false counts = λ h k. omega arith
 
@@ -50,17 +50,11 @@ late_print m width areas = late_walk (walk (length areas.rows) (length areas.tex
 
 -- "1 to 6 .. change no area"
 pub early_refusals_change_no_area :
-    (v : Verdict) (has_root sizes : Bool) (print : Outcome) (areas : Areas) → Late (number print.answer) →
-    1 ≤ number (checked v has_root sizes print areas).answer → number (checked v has_root sizes print areas).answer ≤ 6 →
-    (checked v has_root sizes print areas).areas ≡ areas
+    (v : Result Unit PoolError) (present sizes : Bool) (print : Outcome) (areas : Areas) → Late (number print.answer) →
+    1 ≤ number (checked v present sizes print areas).answer → number (checked v present sizes print areas).answer ≤ 6 →
+    (checked v present sizes print areas).areas ≡ areas
 unfolding checked untouched Late
-early_refusals_change_no_area v has_root sizes print areas late = by (is_accepted v) has_root sizes
-  where
-    answered : Bool → Bool → Bool → Outcome
-    answered a p s = cond a (cond p (cond s print (untouched (refusal 6 0) areas)) (untouched (refusal 5 0) areas)) (untouched (Pool v) areas)
-
-    by : (a p s : Bool) → 1 ≤ number (answered a p s).answer → number (answered a p s).answer ≤ 6 → (answered a p s).areas ≡ areas
-    by true true true h k = absurd (late h k)
-    by true true false h k = refl
-    by true false s h k = refl
-    by false p s h k = refl
+early_refusals_change_no_area (Err e) present sizes print areas late h k = refl
+early_refusals_change_no_area (Ok u) true true print areas late h k = absurd (late h k)
+early_refusals_change_no_area (Ok u) true false print areas late h k = refl
+early_refusals_change_no_area (Ok u) false sizes print areas late h k = refl

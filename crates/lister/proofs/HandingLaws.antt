@@ -1,20 +1,23 @@
 -- What is handed out lies inside its area, and a string that is handed out is the string of its row.
 -- Assumes nothing.
-use Prim.Native.Nat.{ℕ, ◌+◌, ◌-◌, ◌≤◌, min}
+use Prim.Native.Nat.{ℕ, ◌+◌, ◌-◌, ◌<◌, ◌≤◌, min}
 use native.Mathlib.Omega.{arith}
 use mathlib.Core.Bool.{Bool, true, false, ◌&&◌, cond}
 use mathlib.Core.List.{List}
 use mathlib.Core.Path.{◌≡◌, refl, sym, ap, ◌∙◌}
 use lib.Dec.{leb, ltb, eqb}
 use lib.ListN.{length, take, drop}
-use borrow.Author.Tests.{ltb-true, leb-true, eqb-true}
+use borrow.Author.Tests.{ltb-true, ltb-false, leb-true, eqb-true, eq-eqb, ne_eqb, lt-ltb, le-ltb}
 use Rattle.basics.proofs.Booleans.{and_left, and_right}
-use Rattle.document.specs.Rows.{word, measures_at, derived, text_before, fields_ok, same, rule_ok, row_ok, Valid, fault, counts_ok}
-use Rattle.document.proofs.Faults.{counts, accepted_sound}
+use Rattle.std.specs.Prelude.{is_some, not, Ok, Err}
+use Rattle.document.specs.Rows.{word, measures_at, derived, text_before, fields_ok, same, rule_ok, row_ok, Valid, fault, found, counts_ok}
+use Rattle.document.proofs.Faults.{counts, accepted_sound, fault_bound}
 use Rattle.pool.specs.Tables.{S, string_word, string_at}
 use Rattle.pool.specs.Rules.{rising, string_ok}
 use Rattle.pool.proofs.Clips.{part_clip}
-use Rattle.pool_check.specs.Check.{is_accepted}
+use Rattle.pool_check.specs.declared.PoolError.{PoolError}
+use Rattle.pool_check.specs.declared.PoolError.TheVariants.{Words, Limit, Strings, Rows}
+use Rattle.pool_check.specs.Check.{number, is_accepted}
 use Rattle.pool_check.proofs.Acceptance.{accepted, accepted_is}
 use Rattle.utf8.specs.Utf8.{utf8}
 use Rattle.lister.specs.declared.Handed.{Handed}
@@ -76,3 +79,61 @@ pub string_handed : (source : Source) (rows : List ℕ) (count : ℕ) (text : Li
     → hand_out source rows count text total (String r) ≡ string_at (pool_of source) r
 unfolding hand_out span_of area_of string_span string_at
 string_handed source rows count text total r h = rw h
+
+-- ---- as the code tests it
+
+found_is : (f n : ℕ) → f ≤ n → is_some (found f n) ≡ not (eqb f n)
+found_is f n h = by (ltb f n) refl
+  where
+    by : (b : Bool) → ltb f n ≡ b → is_some (found f n) ≡ not (eqb f n)
+    by true e = let below = ltb-true f n e in rw (e, ne_eqb f n (λ z. omega arith))
+    by false e = let above = ltb-false f n e in rw (e, eq-eqb f n (omega arith))
+
+is_not : (b : Bool) → not b ≡ true → b ≡ false
+is_not true e = sym e
+is_not false e = refl
+
+is_so : (b : Bool) → not b ≡ false → b ≡ true
+is_so true e = refl
+is_so false e = sym e
+
+module _ (rows : List ℕ) (count : ℕ) (text : List ℕ) (total r : ℕ) where
+  abbrev counted : Bool
+  counted = counts_ok (length rows) count (length text) total
+
+  faulty_is : (b : Bool) → b ≡ is_some (found (fault rows total count) count) → not (eqb (fault rows total count) count) ≡ b
+  faulty_is b e = sym (found_is (fault rows total count) count (fault_bound rows total count)) ∙ sym e
+
+  pub no_counts : counted ≡ false → false ≡ has_text rows count text total r
+  unfolding has_text
+  no_counts e = rw e
+
+  module _ (ok : counted ≡ true) (b : Bool) (told : b ≡ is_some (found (fault rows total count) count)) where
+    pub faulty : b ≡ true → false ≡ has_text rows count text total r
+    unfolding has_text
+    faulty e = rw (ok, is_not _ (faulty_is b told ∙ e))
+
+    pub faultless : b ≡ false → (v : Bool) → v ≡ ltb r count && eqb (word rows r 0) 0 → v ≡ has_text rows count text total r
+    unfolding has_text
+    faultless e v z = rw (ok, is_so _ (faulty_is b told ∙ e)) z
+
+refused_is : (e : PoolError) → is_accepted (Err e) ≡ false
+unfolding is_accepted number
+refused_is Words = refl
+refused_is Limit = refl
+refused_is (Strings row) = refl
+refused_is (Rows row) = refl
+
+module _ (source : Source) (r : ℕ) where
+  pub string_refused : (e : PoolError) → judged source ≡ Err e → empty ≡ string_span source r
+  unfolding string_span has_string
+  string_refused e j = rw (j, refused_is e)
+
+  module _ (j : judged source ≡ Ok tt) where
+    pub string_missing : S source.words ≤ r → empty ≡ string_span source r
+    unfolding string_span has_string is_accepted number
+    string_missing h = rw (j, le-ltb r (S source.words) h)
+
+    pub string_there : r < S source.words → (offset size : ℕ) → offset ≡ string_word source.words r 0 → size ≡ string_word source.words r 1 → span offset size ≡ string_span source r
+    unfolding string_span has_string is_accepted number
+    string_there h offset size o z = rw (j, lt-ltb r (S source.words) h, o, z)

@@ -3,12 +3,11 @@
 use Prim.Native.Nat.{ℕ}
 use mathlib.Core.Path.{◌≡◌, refl}
 use Rattle.layout.specs.declared.Counts.{Counts}
-use Rattle.layout.specs.declared.Laid.TheVariants as laids
 use Rattle.layout.specs.Call as layout
-use Rattle.pool_check.specs.declared.Verdict.{Verdict}
+use Rattle.std.specs.Prelude.{Ok, Err}
+use Rattle.pool_check.specs.declared.PoolError.{PoolError}
 use Rattle.pool_check.specs.Check as check
-use Rattle.lister.specs.declared.Answer.TheVariants.{Pool}
-use Rattle.lister.specs.Answers.{number, place, refusal, stop_answer, of_laid}
+use Rattle.lister.specs.Answers.{of_pool, number, place, refusal, stop_answer, of_laid}
 
 -- the numbers of the prints from 5 on, with the places they may have: "for 7 the row of the chain's start or the let, for 8, 20 and 21 the
 -- document rows written so far, else 0"
@@ -32,13 +31,13 @@ refusal_reports (text_area rows) = (refl, refl)
 refusal_reports listing = (refl, refl)
 
 -- 1 to 4: check's
-pub pool_reports : (v : Verdict) → (number (Pool v) ≡ check.number v) × (place (Pool v) ≡ check.place v)
+pub pool_reports : (e : PoolError) → (number (Err (of_pool e)) ≡ check.number (Err e)) × (place (Err (of_pool e)) ≡ check.place (Err e))
 unfolding number place
-pool_reports v = (refl, refl)
+pool_reports e = (refl, refl)
 
 -- none, or 22: layout's
 pub done_reports : (counts : Counts)
-    → (number (of_laid (laids.Done counts)) ≡ layout.number (laids.Done counts)) × (place (of_laid (laids.Done counts)) ≡ layout.place (laids.Done counts))
+    → (number (of_laid (Ok counts)) ≡ layout.number (Ok counts)) × (place (of_laid (Ok counts)) ≡ layout.place (Ok counts))
 unfolding number place of_laid
 done_reports counts = (refl, refl)
 

@@ -1,19 +1,13 @@
 -- The references of a call, as the contracts speak of them.
 use Rattle.std.specs.Prelude.{◌≡◌}
 use Rattle.basics.specs.Lent.{Area, Shared, was, left, held}
-use Rattle.pool.specs.Tables.{Pool}
-use Rattle.pool.specs.Areas.{over}
-use Rattle.lister.specs.declared.Answer.{Answer}
+use Rattle.lister.specs.Answers.{Answer}
 use Rattle.lister.specs.Source.{Source}
 use Rattle.lister.specs.Prints.{Areas, Outcome}
 
 -- what a call is given
 abbrev pub given : Shared → Shared → Source
 given bytes words = record { bytes = held bytes; words = held words }
-
--- the pool of a byte area, the words of the strings and names, and the words of the rest
-abbrev pub given_pool : Shared → Shared → Shared → Pool
-given_pool bytes names words = over (held bytes) (held names) (held words)
 
 -- the lent areas, before and after the call
 abbrev pub lent_areas : Area → Area → Area → Areas

@@ -1,20 +1,17 @@
 -- 01, From the input, From the lent areas: print expression and print declaration, as functions of all that is given and lent.
-use Rattle.std.specs.Prelude.{ℕ, ◌-◌, Bool, ◌&&◌, cond, List, ◌++◌, ltb, leb, length, replicate}
+use Rattle.std.specs.Prelude.{ℕ, ◌-◌, Bool, ◌&&◌, cond, List, ◌++◌, Result, Ok, Err, ltb, leb, length, replicate}
 use Rattle.document.specs.Doc.{Doc, text_bytes}
 use Rattle.document.specs.Stored.{stored}
 use Rattle.document.specs.Walk.{Marked, unmarked, Progress, going, stopped, walk}
 use Rattle.layout.specs.Layout.{pieces}
 use Rattle.layout.specs.Call as layout
-use Rattle.pool_check.specs.declared.Verdict.{Verdict}
-use Rattle.pool.specs.Tables.{E, D}
-use Rattle.pool.specs.Unfold.{expr_at, declar_at}
+use Rattle.pool_check.specs.declared.PoolError.{PoolError}
+use Rattle.pool.specs.Tables.{Pool}
 use Rattle.binders.specs.Options.{indented}
-use Rattle.pretty_printer.specs.Exprs.{expr_doc}
-use Rattle.declarations.specs.Declars.{declar_doc}
-use Rattle.pool_check.specs.Check.{is_accepted}
-use Rattle.lister.specs.declared.Answer.{Answer}
-use Rattle.lister.specs.declared.Answer.TheVariants.{Pool}
-use Rattle.lister.specs.Answers.{stop_answer, refusal, of_laid}
+use Rattle.declarations.specs.declared.listing.Root.{Root}
+use Rattle.declarations.specs.declared.listing.Root.TheVariants.{Expr, Declar}
+use Rattle.declarations.specs.Roots.{row_of, roots_in, root_doc}
+use Rattle.lister.specs.Answers.{Answer, of_pool, stop_answer, refusal, of_laid}
 use Rattle.lister.specs.Source.{Source, pool_of, judged}
 
 -- "the lent areas are those a call may write"
@@ -75,18 +72,25 @@ print_doc m width areas = after_walk (walk (length areas.rows) (length areas.tex
 abbrev pub sizes_ok : ℕ → ℕ → Bool
 sizes_ok indent width = leb indent 64 && leb width 65535
 
+-- "5: no such root": the contrary
+abbrev pub has_root : Root → Pool → Bool
+has_root root p = ltb (row_of root) (roots_in root p)
+
 -- "Check order as listed": 1 to 4, then 5, then 6, then what the print itself meets
-unfoldable pub checked : Verdict → Bool → Bool → Outcome → Areas → Outcome
-checked v has_root sizes print areas =
-    cond (is_accepted v) (cond has_root (cond sizes print (untouched (refusal 6 0) areas)) (untouched (refusal 5 0) areas))
-    (untouched (Pool v) areas)
+unfoldable pub checked : Result Unit PoolError → Bool → Bool → Outcome → Areas → Outcome
+checked (Ok _) present sizes print areas =
+    cond present (cond sizes print (untouched (refusal 6 0) areas)) (untouched (refusal 5 0) areas)
+checked (Err error) present sizes print areas = untouched (Err (of_pool error)) areas
 
-unfoldable pub print_expr : Source → ℕ → ℕ → ℕ → Areas → Outcome
-print_expr source root indent width areas =
-    let print : Outcome = print_doc (expr_doc (indented indent) (expr_at (pool_of source) root)) width areas in
-    checked (judged source) (ltb root (E source.words)) (sizes_ok indent width) print areas
+-- the print of a root
+unfoldable pub print : Source → Root → ℕ → ℕ → Areas → Outcome
+print source root indent width areas =
+    let printed : Outcome = print_doc (root_doc root (indented indent) (pool_of source)) width areas in
+    checked (judged source) (has_root root (pool_of source)) (sizes_ok indent width) printed areas
 
-unfoldable pub print_declar : Source → ℕ → ℕ → ℕ → Areas → Outcome
-print_declar source root indent width areas =
-    let print : Outcome = print_doc (declar_doc (indented indent) (declar_at (pool_of source) root)) width areas in
-    checked (judged source) (ltb root (D source.words)) (sizes_ok indent width) print areas
+-- of an expression, and of a declaration
+abbrev pub print_expr : Source → ℕ → ℕ → ℕ → Areas → Outcome
+print_expr source row = print source (Expr row)
+
+abbrev pub print_declar : Source → ℕ → ℕ → ℕ → Areas → Outcome
+print_declar source row = print source (Declar row)

@@ -1,42 +1,33 @@
--- The prints in the code's stages: what is tested before a print begins, and what follows the walk.
-use Rattle.std.specs.Prelude.{ℕ, ◌<◌, ◌≤◌, Bool, ◌&&◌, cond, List, ◌≡◌, eqb}
-use Rattle.document.specs.declared.sink.Sink.{Sink}
+-- The prints in the code's stages: what a print that begins has, and what follows the walk.
+use Rattle.std.specs.Prelude.{ℕ, ◌<◌, ◌≤◌, List, Option, Some, None, Err, ◌≡◌}
+use Rattle.document.specs.declared.written.Stop.{Stop}
+use Rattle.document.specs.declared.written.Written.{Written}
 use Rattle.document.specs.Rows.{Accepted}
 use Rattle.layout.specs.Layout.{pieces}
 use Rattle.layout.specs.Call as call
-use Rattle.pool.specs.declared.tables.Tables.{Tables}
-use Rattle.pool_check.specs.declared.Verdict.{Verdict}
-use Rattle.binders.specs.Asked.{Pooled}
-use Rattle.lister.specs.declared.Answer.{Answer}
-use Rattle.lister.specs.declared.Answer.TheVariants.{Pool, Root, Size}
-use Rattle.lister.specs.Answers.{stop_answer, of_laid}
-use Rattle.pool_check.specs.Check.{is_accepted}
+use Rattle.pool.specs.Tables.{Pool, N}
+use Rattle.declarations.specs.declared.listing.Root.{Root}
+use Rattle.declarations.specs.Roots.{row_of, roots_in}
+use Rattle.lister.specs.Answers.{of_stop, of_laid}
 use Rattle.lister.specs.Prints.{Areas, Outcome, document_cleared}
 
 -- ---- before a print
 
-abbrev pub may_print : Verdict → Bool → Bool → Bool
-may_print v has_root sizes = is_accepted v && (has_root && sizes)
-
--- the answer of a print that may not begin: "Check order as listed"
-unfoldable pub refusal : Verdict → Bool → Answer
-refusal v has_root = cond (is_accepted v) (cond has_root Size Root) (Pool v)
-
--- what a print that may begin has: an accepted pool and its tables, a root below `count`, the rows of its table, and allowed sizes
-pub record Begins (bytes names words : List ℕ) (t : Tables) (root count indent width : ℕ) : Type 0 where
-  pub pool : Pooled bytes names words t
-  pub root_there : root < count
+-- what a print that may begin has: a pool each of whose name rows fits 16 bits, a root in it, and allowed sizes
+pub record Begins (p : Pool) (root : Root) (indent width : ℕ) : Type 0 where
+  pub few : N p.names ≤ 65536
+  pub root_there : row_of root < roots_in root p
   pub indent_small : indent ≤ 64
   pub width_small : width ≤ 65535
 
 -- ---- after the walk
 
 -- a walk that was not refused left an accepted document
-abbrev pub WalkEnds : Sink → ℕ → List ℕ → List ℕ → Type 0
-WalkEnds s width rows text = (s.stop ≡ 0 → Accepted rows s.rows text s.text) × (width ≤ 65535)
+abbrev pub WalkEnds : Written → ℕ → List ℕ → List ℕ → Type 0
+WalkEnds s width rows text = (s.stop ≡ None → Accepted rows s.rows text s.text) × (width ≤ 65535)
 
 -- the document that stands in the areas is laid out
-unfoldable pub laid_out : Sink → ℕ → Areas → Outcome
+unfoldable pub laid_out : Written → ℕ → Areas → Outcome
 laid_out s width areas =
     let o : call.Outcome =
     call.listed s.rows s.text (pieces width (call.doc_of areas.rows s.rows areas.text)) areas.listing in
@@ -45,7 +36,10 @@ laid_out s width areas =
       areas = record { rows = areas.rows; text = areas.text; listing = o.listing };
     }
 
--- a walk that ended with a sink: refused, or its document is laid out
-unfoldable pub finished : Sink → ℕ → Areas → Outcome
-finished s width areas =
-    cond (eqb s.stop 0) (laid_out s width areas) (document_cleared (stop_answer s.stop s.place) areas)
+-- what stopped a walk is the answer; else its document is laid out
+unfoldable pub finished_by : Option Stop → Outcome → Areas → Outcome
+finished_by None listed areas = listed
+finished_by (Some stop) listed areas = document_cleared (Err (of_stop stop)) areas
+
+abbrev pub finished : Written → ℕ → Areas → Outcome
+finished s width areas = finished_by s.stop (laid_out s width areas) areas

@@ -1,43 +1,69 @@
 -- What a call returns and leaves in its areas, from what the calls inside it ensure.
 -- Assumes nothing.
-use mathlib.Core.Path.{◌≡◌, ap, ◌∙◌}
+use mathlib.Core.Path.{◌≡◌, refl, ap, ◌∙◌}
 use mathlib.Core.List.{List, [], ◌∷◌}
 use Prim.Native.Nat.{ℕ}
-use Rattle.pool_check.specs.declared.Verdict.{Verdict}
-use Rattle.comparison.specs.declared.Compared.{Compared}
-use Rattle.layout.specs.declared.Laid.{Laid}
+use Rattle.std.specs.Prelude.{Result, Ok, Err}
+use Rattle.pool_check.specs.Check as check
+use Rattle.layout.specs.Call as call
+use Rattle.pool_check.specs.declared.PoolError.{PoolError}
+use Rattle.comparison.specs.Call as comparisons
+use Rattle.layout.specs.declared.Counts.{Counts}
+use Rattle.layout.specs.declared.LayoutError.{LayoutError}
 use Rattle.layout.specs.Call.{Outcome}
-use Rattle.layout_pending.specs.declared.LaidPending.{LaidPending}
+use Rattle.layout_pending.specs.declared.PendingError.{PendingError}
 use Rattle.layout_pending.specs.Call as pendings
-use Rattle.lister_c.specs.declared.Report.{Report}
-use Rattle.lister_c.specs.declared.PairReport.{PairReport}
-use Rattle.lister.specs.declared.Answer.{Answer}
+use Rattle.lister_c.specs.declared.reports.Report.{Report}
+use Rattle.lister.specs.Answers as numbers
 use Rattle.lister.specs.declared.Part.{Part}
 use Rattle.lister.specs.Prints as prints
-use Rattle.lister_c.specs.Reports.{Checked, LaidOut, LaidOutPending, Printed, of_verdict, of_laid, of_laid_pending, of_answer, put, put_words, checked, laid, laid_pending, printed, handed, of_compared, pair_words, compared}
+use Rattle.lister_c.specs.Reports.{none, refusal, success, Checked, LaidOut, LaidOutPending, Printed, of_verdict, of_laid, of_laid_pending, of_answer, put, put_words, checked, laid, laid_pending, printed, handed, pair_words, compared}
+
+-- the number of a report is that of the answer
+laid_number : (v : Result Counts LayoutError) → (of_laid v).number ≡ call.number v
+unfolding of_laid
+laid_number (Ok counts) = refl
+laid_number (Err error) = refl
+
+pending_number : (v : Result Counts PendingError) → (of_laid_pending v).number ≡ pendings.number v
+unfolding of_laid_pending
+pending_number (Ok counts) = refl
+pending_number (Err error) = refl
+
+print_number : (v : numbers.Answer) → (of_answer v).number ≡ numbers.number v
+unfolding of_answer numbers.number
+print_number (Ok counts) = refl
+print_number (Err error) = refl
+
+-- what check reports
+pub accepted_report : (v : Result Unit PoolError) (r : Report) (k : Counts) → Ok tt ≡ v → r ≡ success k → k ≡ none → r ≡ of_verdict v
+unfolding of_verdict check.number check.place
+accepted_report v r k e s z = rw (← e, s, z)
+
+pub refused_report : (v : Result Unit PoolError) (r : Report) (error : PoolError) → Err error ≡ v
+    → r ≡ refusal (check.number (Err error)) (check.place (Err error)) → r ≡ of_verdict v
+unfolding of_verdict
+refused_report v r error e s = s ∙ ap of_verdict e
 
 abbrev pub answer : ℕ → List ℕ → Checked
 answer number out = record { number = number; out = out }
 
 pub check_answer :
-    {v w : Verdict} {r : Report} {last : List ℕ} (out : List ℕ)
-    → v ≡ w
+    (v : Result Unit PoolError) {r : Report} {last : List ℕ} (out : List ℕ)
     → r ≡ of_verdict v
     → last ≡ put out r
-    → answer r.number last ≡ checked w out
+    → answer r.number last ≡ checked v out
 unfolding checked of_verdict
-check_answer {v} {w} {r} out verdict report filled =
-    ap (answer r.number) filled
-    ∙ (ap (λ (x : Report). answer x.number (put out x)) report ∙ ap (λ (x : Verdict). checked x out) verdict)
+check_answer v {r} out report filled = ap (answer r.number) filled ∙ ap (λ (x : Report). answer x.number (put out x)) report
 
-abbrev pub outcome_of : Laid → List ℕ → Outcome
+abbrev pub outcome_of : Result Counts LayoutError → List ℕ → Outcome
 outcome_of v listing = record { answer = v; listing = listing }
 
 abbrev pub answers : List ℕ → ℕ → List ℕ → LaidOut
 answers listing number out = record { number = number; listing = listing; out = out }
 
 pub layout_answer :
-    {v : Laid} {listing : List ℕ} {o : Outcome} {r : Report} {last : List ℕ} (out : List ℕ)
+    {v : Result Counts LayoutError} {listing : List ℕ} {o : Outcome} {r : Report} {last : List ℕ} (out : List ℕ)
     → outcome_of v listing ≡ o
     → r ≡ of_laid v
     → last ≡ put out r
@@ -45,16 +71,18 @@ pub layout_answer :
 unfolding laid of_laid
 layout_answer {v} {listing} {o} {r} out outcome report filled =
     ap (answers listing r.number) filled
-    ∙ (ap (λ (x : Report). answers listing x.number (put out x)) report ∙ ap (λ (x : Outcome). laid x out) outcome)
+    ∙ ap (λ (x : Report). answers listing x.number (put out x)) report
+    ∙ ap (λ (n : ℕ). answers listing n (put out (of_laid v))) (laid_number v)
+    ∙ ap (λ (x : Outcome). laid x out) outcome
 
-abbrev pub pending_outcome : LaidPending → List ℕ → List ℕ → pendings.Outcome
+abbrev pub pending_outcome : Result Counts PendingError → List ℕ → List ℕ → pendings.Outcome
 pending_outcome v listing pending = record { answer = v; listing = listing; pending = pending }
 
 abbrev pub pending_answers : List ℕ → List ℕ → ℕ → List ℕ → LaidOutPending
 pending_answers listing pending number out = record { number = number; listing = listing; pending = pending; out = out }
 
 pub layout_pending_answer :
-    {v : LaidPending} {listing pending : List ℕ} {o : pendings.Outcome} {r : Report} {last : List ℕ} (out : List ℕ)
+    {v : Result Counts PendingError} {listing pending : List ℕ} {o : pendings.Outcome} {r : Report} {last : List ℕ} (out : List ℕ)
     → pending_outcome v listing pending ≡ o
     → r ≡ of_laid_pending v
     → last ≡ put out r
@@ -62,17 +90,18 @@ pub layout_pending_answer :
 unfolding laid_pending of_laid_pending
 layout_pending_answer {v} {listing} {pending} {o} {r} out outcome report filled =
     ap (pending_answers listing pending r.number) filled
-    ∙ (ap (λ (x : Report). pending_answers listing pending x.number (put out x)) report
-    ∙ ap (λ (x : pendings.Outcome). laid_pending x out) outcome)
+    ∙ ap (λ (x : Report). pending_answers listing pending x.number (put out x)) report
+    ∙ ap (λ (n : ℕ). pending_answers listing pending n (put out (of_laid_pending v))) (pending_number v)
+    ∙ ap (λ (x : pendings.Outcome). laid_pending x out) outcome
 
-abbrev pub print_outcome : Answer → prints.Areas → prints.Outcome
+abbrev pub print_outcome : numbers.Answer → prints.Areas → prints.Outcome
 print_outcome v areas = record { answer = v; areas = areas }
 
 abbrev pub print_answers : prints.Areas → ℕ → List ℕ → Printed
 print_answers areas number out = record { number = number; areas = areas; out = out }
 
 pub print_answer :
-    {v : Answer} {areas : prints.Areas} {o : prints.Outcome} {r : Report} {last : List ℕ} (out : List ℕ)
+    {v : numbers.Answer} {areas : prints.Areas} {o : prints.Outcome} {r : Report} {last : List ℕ} (out : List ℕ)
     → print_outcome v areas ≡ o
     → r ≡ of_answer v
     → last ≡ put out r
@@ -80,7 +109,9 @@ pub print_answer :
 unfolding printed of_answer
 print_answer {v} {areas} {o} {r} out outcome report filled =
     ap (print_answers areas r.number) filled
-    ∙ (ap (λ (x : Report). print_answers areas x.number (put out x)) report ∙ ap (λ (x : prints.Outcome). printed x out) outcome)
+    ∙ ap (λ (x : Report). print_answers areas x.number (put out x)) report
+    ∙ ap (λ (n : ℕ). print_answers areas n (put out (of_answer v))) (print_number v)
+    ∙ ap (λ (x : prints.Outcome). printed x out) outcome
 
 pub hand_out_answer :
     {p q : Part} {last : List ℕ} (out : List ℕ)
@@ -91,12 +122,12 @@ unfolding handed
 hand_out_answer {p} {q} out part filled = ap (answer 0) filled ∙ ap (λ (x : Part). handed x out) part
 
 pub compare_answer :
-    {v w : Compared} {r : PairReport} {last : List ℕ} (out : List ℕ)
+    {v w : comparisons.Answer} {n : ℕ} {last : List ℕ} (out : List ℕ)
     → v ≡ w
-    → r ≡ of_compared v
-    → last ≡ put_words out (pair_words r)
-    → answer r.number last ≡ compared w out
-unfolding compared of_compared
-compare_answer {v} {w} {r} out comparison report filled =
-    ap (answer r.number) filled
-    ∙ (ap (λ (x : PairReport). answer x.number (put_words out (pair_words x))) report ∙ ap (λ (x : Compared). compared x out) comparison)
+    → n ≡ comparisons.number v
+    → last ≡ put_words out (pair_words v)
+    → answer n last ≡ compared w out
+unfolding compared
+compare_answer {v} {w} {n} out comparison number filled =
+    ap (answer n) filled
+    ∙ (ap (λ (k : ℕ). answer k (put_words out (pair_words v))) number ∙ ap (λ (x : comparisons.Answer). compared x out) comparison)

@@ -1,9 +1,9 @@
 -- The references of the C functions, as their contracts speak of them: a function returns the number v, and leaves what the definition
 -- makes of the areas it was lent.
-use Rattle.std.specs.Prelude.{List, ◌≡◌, ℕ}
-use Rattle.pool_check.specs.declared.Verdict.{Verdict}
+use Rattle.std.specs.Prelude.{List, Result, ◌≡◌, ℕ}
+use Rattle.pool_check.specs.declared.PoolError.{PoolError}
 use Rattle.basics.specs.Lent.{Area, was, left}
-use Rattle.comparison.specs.declared.Compared.{Compared}
+use Rattle.comparison.specs.Call as comparisons
 use Rattle.layout.specs.Call as call
 use Rattle.layout_pending.specs.Call as pendings
 use Rattle.lister.specs.declared.Part.{Part}
@@ -11,7 +11,7 @@ use Rattle.lister.specs.Prints as prints
 use Rattle.lister.specs.Frames.{lent_areas, left_areas}
 use Rattle.lister_c.specs.Reports.{checked, laid, laid_pending, printed, handed, compared}
 
-abbrev pub Checks : Area → ℕ → Verdict → Type 0
+abbrev pub Checks : Area → ℕ → Result Unit PoolError → Type 0
 Checks out v verdict = record { number = v; out = left out } ≡ checked verdict (was out)
 
 abbrev pub LaysOut : Area → Area → ℕ → (List ℕ → call.Outcome) → Type 0
@@ -30,5 +30,5 @@ Prints rows text listing out v defined =
 abbrev pub HandsOut : Area → ℕ → Part → Type 0
 HandsOut out v p = record { number = v; out = left out } ≡ handed p (was out)
 
-abbrev pub ComparesRows : Area → ℕ → Compared → Type 0
+abbrev pub ComparesRows : Area → ℕ → comparisons.Answer → Type 0
 ComparesRows out v c = record { number = v; out = left out } ≡ compared c (was out)

@@ -1,28 +1,22 @@
 -- What the C functions return, and what they leave in their areas.
-use Rattle.std.specs.Prelude.{ℕ, cond, List, [], ◌∷◌, ◌++◌, length, drop, ltb, eqb}
-use Rattle.pool_check.specs.declared.Verdict.{Verdict}
+use Rattle.std.specs.Prelude.{ℕ, cond, List, [], ◌∷◌, ◌++◌, Option, Some, None, Result, Ok, Err, length, drop, ltb, eqb}
+use Rattle.pool_check.specs.declared.PoolError.{PoolError}
 use Rattle.pool_check.specs.Check as check
-use Rattle.comparison.specs.declared.Compared.{Compared}
-use Rattle.comparison.specs.declared.Compared.TheVariants as compareds
+use Rattle.comparison.specs.declared.Pair.{Pair}
 use Rattle.comparison.specs.Call as comparisons
 use Rattle.layout.specs.declared.Counts.{Counts}
-use Rattle.layout.specs.declared.Laid.{Laid}
-use Rattle.layout.specs.declared.Laid.TheVariants.{Done, Document, Width, Listing}
+use Rattle.layout.specs.declared.LayoutError.{LayoutError}
 use Rattle.layout.specs.Call as call
 use Rattle.layout.specs.Call.{Outcome}
-use Rattle.layout_pending.specs.declared.LaidPending.{LaidPending}
-use Rattle.layout_pending.specs.declared.LaidPending.TheVariants as pendings
+use Rattle.layout_pending.specs.declared.PendingError.{PendingError}
 use Rattle.layout_pending.specs.Call as pending
-use Rattle.lister.specs.declared.Answer.{Answer}
-use Rattle.lister.specs.declared.Answer.TheVariants as answers
 use Rattle.lister.specs.Answers as numbers
 use Rattle.lister.specs.Prints as prints
 use Rattle.lister.specs.Source.{Source}
 use Rattle.lister.specs.Handing.{span_of, empty}
 use Rattle.lister.specs.declared.Part.{Part}
 use Rattle.lister.specs.declared.Handed.TheVariants.{Text, String}
-use Rattle.lister_c.specs.declared.Report.{Report}
-use Rattle.lister_c.specs.declared.PairReport.{PairReport}
+use Rattle.lister_c.specs.declared.reports.Report.{Report}
 
 -- what does not apply is 0
 abbrev pub none : Counts
@@ -36,43 +30,26 @@ refusal number place = record { number = number; place = place; counts = none }
 abbrev pub success : Counts → Report
 success counts = record { number = 0; place = 0; counts = counts }
 
+-- what a call reports: its counts, or the number and the place of its refusal
+abbrev pub reported : {E : Type 0} → (E → ℕ) → (E → ℕ) → Result Counts E → Report
+reported number place (Ok counts) = success counts
+reported number place (Err error) = refusal (number error) (place error)
+
 -- what check reports
-unfoldable pub of_verdict : Verdict → Report
+unfoldable pub of_verdict : Result Unit PoolError → Report
 of_verdict v = refusal (check.number v) (check.place v)
 
--- the counts where there is no refusal
-unfoldable pub laid_counts : Laid → Counts
-laid_counts (Done counts) = counts
-laid_counts (Document row) = none
-laid_counts Width = none
-laid_counts Listing = none
-
 -- what layout reports
-unfoldable pub of_laid : Laid → Report
-of_laid l = record { number = call.number l; place = call.place l; counts = laid_counts l }
-
-unfoldable pub laid_pending_counts : LaidPending → Counts
-laid_pending_counts (pendings.Laid laid) = laid_counts laid
-laid_pending_counts pendings.PendingArea = none
+unfoldable pub of_laid : Result Counts LayoutError → Report
+of_laid l = reported (λ e. call.number (Err e)) (λ e. call.place (Err e)) l
 
 -- what the layout with a pending area reports
-unfoldable pub of_laid_pending : LaidPending → Report
-of_laid_pending l = record { number = pending.number l; place = pending.place l; counts = laid_pending_counts l }
-
-unfoldable pub print_counts : Answer → Counts
-print_counts (answers.Done counts) = counts
-print_counts (answers.Pool verdict) = none
-print_counts answers.Root = none
-print_counts answers.Size = none
-print_counts (answers.Names row) = none
-print_counts (answers.Document rows) = none
-print_counts (answers.RowArea rows) = none
-print_counts (answers.TextArea rows) = none
-print_counts answers.Listing = none
+unfoldable pub of_laid_pending : Result Counts PendingError → Report
+of_laid_pending l = reported (λ e. pending.number (Err e)) (λ e. pending.place (Err e)) l
 
 -- what a print reports
-unfoldable pub of_answer : Answer → Report
-of_answer a = record { number = numbers.number a; place = numbers.place a; counts = print_counts a }
+unfoldable pub of_answer : numbers.Answer → Report
+of_answer a = reported (λ e. numbers.number (Err e)) (λ e. numbers.place (Err e)) a
 
 -- the eight words of a report, in the order of `out`
 abbrev pub eight : Report → List ℕ
@@ -93,7 +70,7 @@ pub record Checked : Type 0 where
   pub number : ℕ
   pub out : List ℕ
 
-unfoldable pub checked : Verdict → List ℕ → Checked
+unfoldable pub checked : Result Unit PoolError → List ℕ → Checked
 checked v out = record { number = check.number v; out = put out (of_verdict v) }
 
 -- what `tilusorgu_layout` returns, and the listing area and `out` afterwards
@@ -144,40 +121,27 @@ handed p out = record { number = 0; out = put_words out (0 ∷ 0 ∷ p.offset �
 
 -- ---- compare
 
--- no number refuses: 1 where the trees are equal, and the two rows
-abbrev pub pair_of : ℕ → ℕ → ℕ → PairReport
-pair_of equal first second = record { number = 0; place = 0; equal = equal; first = first; second = second }
+-- 1 where the trees are equal
+abbrev pub equal_in : comparisons.Answer → ℕ
+equal_in (Ok None) = 1
+equal_in (Ok (Some pair)) = 0
+equal_in (Err error) = 0
 
--- a number and its place
-abbrev pub unpaired : ℕ → ℕ → PairReport
-unpaired number place = record { number = number; place = place; equal = 0; first = 0; second = 0 }
+-- the two rows
+abbrev pub first_in : comparisons.Answer → ℕ
+first_in (Ok None) = 0
+first_in (Ok (Some pair)) = pair.first
+first_in (Err error) = 0
 
-unfoldable pub equal_in : Compared → ℕ
-equal_in compareds.Equal = 1
-equal_in (compareds.Differ first second) = 0
-equal_in (compareds.Pool verdict) = 0
-equal_in compareds.Root = 0
+abbrev pub second_in : comparisons.Answer → ℕ
+second_in (Ok None) = 0
+second_in (Ok (Some pair)) = pair.second
+second_in (Err error) = 0
 
-unfoldable pub first_in : Compared → ℕ
-first_in compareds.Equal = 0
-first_in (compareds.Differ first second) = first
-first_in (compareds.Pool verdict) = 0
-first_in compareds.Root = 0
+-- the eight words that compare reports, in the order of `out`
+unfoldable pub pair_words : comparisons.Answer → List ℕ
+pair_words c =
+    comparisons.number c ∷ comparisons.place c ∷ equal_in c ∷ first_in c ∷ second_in c ∷ 0 ∷ 0 ∷ 0 ∷ []
 
-unfoldable pub second_in : Compared → ℕ
-second_in compareds.Equal = 0
-second_in (compareds.Differ first second) = second
-second_in (compareds.Pool verdict) = 0
-second_in compareds.Root = 0
-
--- what compare reports
-unfoldable pub of_compared : Compared → PairReport
-of_compared c =
-    record { number = comparisons.number c; place = comparisons.place c; equal = equal_in c; first = first_in c; second = second_in c }
-
--- its eight words, in the order of `out`
-abbrev pub pair_words : PairReport → List ℕ
-pair_words r = r.number ∷ r.place ∷ r.equal ∷ r.first ∷ r.second ∷ 0 ∷ 0 ∷ 0 ∷ []
-
-unfoldable pub compared : Compared → List ℕ → Checked
-compared c out = record { number = comparisons.number c; out = put_words out (pair_words (of_compared c)) }
+unfoldable pub compared : comparisons.Answer → List ℕ → Checked
+compared c out = record { number = comparisons.number c; out = put_words out (pair_words c) }

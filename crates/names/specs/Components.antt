@@ -2,10 +2,8 @@
 use Rattle.std.specs.Prelude.{ℕ, Bool, true, false, cond, List, [], eqb}
 use Rattle.utf8.specs.Quoted.{bytes}
 use Rattle.utf8.specs.Letterlike.{same_bytes}
-use Rattle.document.specs.Sink.{State, sink_of, put_byte}
-use Rattle.pool.specs.Tables.{string_at}
+use Rattle.document.specs.Sink.{State, written_of, put_byte}
 use Rattle.pool.specs.Tree.{Name, anonymous, string, number}
-use Rattle.pool.specs.Areas.{over}
 use Rattle.pieces.specs.Docs.{digits}
 use Rattle.names.specs.Names.{escaped}
 
@@ -31,8 +29,4 @@ is_hyg (number p n) = false
 
 -- a dot, unless the text is as long as it was
 unfoldable pub put_dot : ℕ → State → State
-put_dot from st = cond (eqb (sink_of st).text from) st (put_byte 46 st)
-
--- the bytes of string row r, of the byte area and the words that hold the strings
-abbrev pub string_in : List ℕ → List ℕ → ℕ → List ℕ
-string_in bs ns r = string_at (over bs ns []) r
+put_dot from st = cond (eqb (written_of st).text from) st (put_byte 46 st)

@@ -1,73 +1,55 @@
 // Names: their document, one text, and whether they are hygienic.
 ghost use Rattle.std.specs.Prelude.{◌≡◌, ◌<◌};
-ghost use Rattle.document.specs.Sink.{Leaves, put_bytes, emit};
+ghost use Rattle.document.specs.Leaves.{Leaves};
+ghost use Rattle.document.specs.Sink.{put_bytes, emit};
 ghost use Rattle.pool.specs.Tables.{N};
 ghost use Rattle.pool.specs.Unfold.{name_at};
-ghost use Rattle.pool.specs.Areas.{lent};
-ghost use Rattle.pool.specs.Ready.{Ready};
+ghost use Rattle.pool.specs.Views.{lent};
 ghost use Rattle.names.specs.Names.{joined, is_hygienic, name_doc};
 
 use crate::components::{is_anonymous, is_hyg, is_number, prefix_of, put_component, put_dot};
-use document::sink::{Sink, end_text};
-use pieces::words::{ANONYMOUS, put_word};
-use pool::tables::Tables;
+use document::sink::Sink;
+use pieces::words::put_word;
+use pool::checked::CheckedPool;
 
 // A name's components, joined, without their row (the Rust's name_to_string). After a refusal no component is read: strings can be long.
-pub fn put_name_bytes(
-    bytes: &[u8],
-    names: &[u32],
-    words: &[u32],
-    t: Tables,
-    rows: &mut [u32],
-    text: &mut [u8],
-    s: Sink,
-    r: usize,
-) -> Sink
-    requires { (Ready bytes.now names.now words.now t) × (r < N names.now) }
-    ensures { Leaves rows text s result (put_bytes (joined (name_at (lent bytes names words) r))) }
+pub fn put_name_bytes(pool: &CheckedPool<'_>, sink: &mut Sink<'_>, r: usize)
+    requires { (r < N (lent pool.now).names) }
+    ensures { Leaves sink.old sink.new (put_bytes (joined (name_at (lent pool.now) r))) }
 {
-    if is_anonymous(bytes, names, words, t, r) {
-        return s;
+    if is_anonymous(pool, r) {
+        return;
     }
-    let prefix = prefix_of(bytes, names, words, t, r);
-    let from = s.text;
-    let s = put_name_bytes(bytes, names, words, t, rows, text, s, prefix);
-    if s.stop != 0 {
-        return s;
+    let prefix = prefix_of(pool, r);
+    let from = sink.written.text;
+    put_name_bytes(pool, sink, prefix);
+    if sink.is_stopped() {
+        return;
     }
-    let s = put_dot(rows, text, s, from);
-    put_component(bytes, names, words, t, rows, text, s, r)
+    put_dot(sink, from);
+    put_component(pool, sink, r)
 }
 
 // Past trailing numbers, the last component is "_hyg".
-pub fn has_macro_scopes(bytes: &[u8], names: &[u32], words: &[u32], t: Tables, r: usize) -> bool
-    requires { (Ready bytes.now names.now words.now t) × (r < N names.now) }
-    ensures { result ≡ is_hygienic (name_at (lent bytes names words) r) }
+pub fn has_macro_scopes(pool: &CheckedPool<'_>, r: usize) -> bool
+    requires { (r < N (lent pool.now).names) }
+    ensures { result ≡ is_hygienic (name_at (lent pool.now) r) }
 {
     let mut at = r;
-    while is_number(bytes, names, words, t, at) {
-        at = prefix_of(bytes, names, words, t, at);
+    while is_number(pool, at) {
+        at = prefix_of(pool, at);
     }
-    is_hyg(bytes, names, words, t, at)
+    is_hyg(pool, at)
 }
 
-pub fn pp_name_safe(
-    bytes: &[u8],
-    names: &[u32],
-    words: &[u32],
-    t: Tables,
-    rows: &mut [u32],
-    text: &mut [u8],
-    s: Sink,
-    r: usize,
-) -> Sink
-    requires { (Ready bytes.now names.now words.now t) × (r < N names.now) }
-    ensures { Leaves rows text s result (emit (name_doc (name_at (lent bytes names words) r))) }
+pub fn pp_name_safe(pool: &CheckedPool<'_>, sink: &mut Sink<'_>, r: usize)
+    requires { (r < N (lent pool.now).names) }
+    ensures { Leaves sink.old sink.new (emit (name_doc (name_at (lent pool.now) r))) }
 {
-    if is_anonymous(bytes, names, words, t, r) {
-        return put_word(rows, text, s, ANONYMOUS);
+    if is_anonymous(pool, r) {
+        return put_word(sink, b"\xc2\xab\xc2\xbb");
     }
-    let from = s.text;
-    let s = put_name_bytes(bytes, names, words, t, rows, text, s, r);
-    end_text(rows, text, s, from)
+    let from = sink.written.text;
+    put_name_bytes(pool, sink, r);
+    sink.end_text(from)
 }

@@ -1,6 +1,5 @@
 pub mod PartLaws
 pub mod SearchLaws
-pub mod TriedLaws
 pub mod BitLaws
 pub mod StepLaws
 pub mod SweepLaws

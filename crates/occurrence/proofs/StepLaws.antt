@@ -3,34 +3,34 @@ use Prim.Native.Nat.{ℕ, zero, suc, ◌+◌, ◌-◌, ◌*◌, ◌%◌, ◌^◌
 use native.Mathlib.Omega.{arith}
 use native.Mathlib.Numerals.{add-one}
 use native.Mathlib.Nat.{one-mul}
-use mathlib.Core.List.{List, [], ◌∷◌}
+use mathlib.Core.List.{List}
 use mathlib.Core.Path.{◌≡◌, refl, sym, ap, ap₂, ◌∙◌, subst}
 use borrow.Author.Tests.{lt-ltb, le-ltb, le-leb, lt-leb}
 use lib.Bits.{bit_or}
 use lib.ListN.{length, get_or, set}
 use lib.Pow.{shl_exact}
+use Rattle.std.proofs.lemmas.List.{get_or_past, get_or_default}
 use Rattle.pool.specs.Tables.{expr_word}
 use Rattle.occurrence.specs.Parts.{first_part, second_part, body_part}
-use Rattle.occurrence.specs.Sets.{Kept, kept, part_word, body_word, last_bit, row_word, row_step, sweep_rows, sweeps}
+use Rattle.occurrence.specs.Sets.{Kept, kept, entry_at, part_word, body_word, last_bit, row_word, row_step, sweep_rows, sweeps}
 
-past : (l : List ℕ) (i : ℕ) → length l ≤ i → get_or l i 0 ≡ 0
-past [] i h = refl
-past (x ∷ l) zero h = absurd (omega arith)
-past (x ∷ l) (suc i) h = past l i (omega arith)
+-- what a table has of a part
+module _ {A : Type 0} (none : A) (l : List A) where
+  pub entry_none : (part : ℕ) → part ≡ 0 → none ≡ entry_at none l part
+  unfolding entry_at
+  entry_none part e = sym (ap (entry_at none l) e)
 
-pub part_none : (l : List ℕ) (part : ℕ) → part ≡ 0 → 0 ≡ part_word l part
-unfolding part_word
-part_none l part e = sym (ap (part_word l) e)
+  pub entry_past : (part : ℕ) → length l < part → none ≡ entry_at none l part
+  unfolding entry_at
+  entry_past zero h = refl
+  entry_past (suc r) h = sym (get_or_past l r none (omega arith))
 
-pub part_past : (l : List ℕ) (part : ℕ) → length l < part → 0 ≡ part_word l part
-unfolding part_word
-part_past l zero h = refl
-part_past l (suc r) h = sym (past l r (omega arith))
-
-pub part_there : (l : List ℕ) (part : ℕ) → (part ≡ 0 → ⊥) → get_or l (part - 1) 0 ≡ part_word l part
-unfolding part_word
-part_there l zero n = absurd (n refl)
-part_there l (suc r) n = ap (λ (i : ℕ). get_or l i 0) (let e : suc r - 1 ≡ r = omega arith in e)
+  pub entry_there : (part : ℕ) (x : A) → (part ≡ 0 → ⊥) → part ≤ length l → x ≡ get_or l (part - 1) x → x ≡ entry_at none l part
+  unfolding entry_at
+  entry_there zero x n h e = absurd (n refl)
+  entry_there (suc r) x n h e =
+      let f : suc r - 1 ≡ r = omega arith in
+      e ∙ ap (λ (i : ℕ). get_or l i x) f ∙ get_or_default l r x none (omega arith)
 
 pub no_last : (loose base : ℕ) → 64 < loose - base → 0 ≡ last_bit loose base
 unfolding last_bit

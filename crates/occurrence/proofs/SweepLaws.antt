@@ -11,7 +11,6 @@ use lib.Dec.{leb, ltb, eqb}
 use lib.ListN.{length, get_or, set, length-set, replicate}
 use lib.Pow.{pow-lt}
 use lib.Seq.{get_or-set_same, get_or-set_other}
-use Rattle.pool.specs.declared.tables.Tables.{Tables}
 use Rattle.pool.specs.Tables.{Pool, E, expr_word}
 use Rattle.pool.specs.Areas.{over}
 use Rattle.pool.specs.Sound.{Sound}
@@ -20,7 +19,7 @@ use Rattle.pool.specs.Unfold.{expr_at}
 use Rattle.pool.proofs.TreeLaws.{none_above, greatest_occurs}
 use Rattle.pool.proofs.ExprUnfolds.{loose-word, depth-word}
 use Rattle.occurrence.specs.Parts.{first_part, second_part, body_part, occurs_at}
-use Rattle.occurrence.specs.Sets.{bit, Kept, kept, part_word, body_word, last_bit, row_word, row_step, sweep_rows, sweeps, Sweep, Answers}
+use Rattle.occurrence.specs.Sets.{bit, Kept, kept, entry_at, part_word, body_word, last_bit, row_word, row_step, sweep_rows, sweeps, Sweep, Answers}
 use Rattle.occurrence.proofs.PartLaws.{in_parts, first_lower, second_lower, body_lower, depth_at, some_depth, first_deep, second_deep, body_deep}
 use Rattle.occurrence.proofs.BitLaws.{bit-or, bit_none, bit-one, bit_moved, bit_carried, moved_small}
 
@@ -70,13 +69,13 @@ module _ (p : Pool) (sound : Sound p) (base end r : ℕ) (h : r < E p.words) (se
     (lower : (x : ℕ) → x < r → Right p base end x (get_or sets x 0)) (carry : (x : ℕ) → x < r → Carry p base end x (get_or above x 0)) where
   -- a part under as many binders
   part_small : (part : ℕ) → part ≤ r → small (part_word sets part)
-  unfolding part_word
+  unfolding entry_at
   part_small zero g = none_small
   part_small (suc x) g = (lower x (omega arith)).fits
 
   part_says : (k : ℕ) → k < 64 → base + k + depth (expr_at p r) ≤ end → (part : ℕ) → part ≤ r → depth_at p part < depth (expr_at p r)
       → bit k (part_word sets part) ≡ occurs_at p (base + k) part
-  unfolding part_word occurs_at
+  unfolding entry_at occurs_at
   part_says k f e zero g d = bit_none k
   part_says k f e (suc x) g d = (lower x (omega arith)).says k f (omega arith)
 
@@ -87,7 +86,7 @@ module _ (p : Pool) (sound : Sound p) (base end r : ℕ) (h : r < E p.words) (se
 
   body_says : (k : ℕ) → k < 64 → base + k + depth (expr_at p r) ≤ end → (part : ℕ) → part ≤ r → depth_at p part < depth (expr_at p r)
       → bit k (body_word sets above part) ≡ occurs_at p (suc (base + k)) part
-  unfolding body_word part_word occurs_at
+  unfolding body_word entry_at occurs_at
   body_says k f e zero g d = bit_none k
   body_says k f e (suc x) g d = by (ltb k 63) refl
     where
@@ -265,10 +264,10 @@ zeros_small (suc m) zero = omega arith
 zeros_small (suc m) (suc j) = zeros_small m j
 
 -- the answer that is read off at the end
-pub answered : (ws : List ℕ) (t : Tables) (r i : ℕ) (sets above after lows : List ℕ) → Sweep ws t r i sets above → (d : ℕ) → d ≡ expr_word ws r 6
-    → kept after lows ≡ sweeps ws i (r + 1) (d / 64 + 1) (kept sets above) → Answers ws t r i (eqb (get_or after r 0 % 2) 1)
+pub answered : (ws : List ℕ) (r i : ℕ) (sets above after lows : List ℕ) → Sweep ws r i sets above → (d : ℕ) → d ≡ expr_word ws r 6
+    → kept after lows ≡ sweeps ws i (r + 1) (d / 64 + 1) (kept sets above) → Answers ws r i (eqb (get_or after r 0 % 2) 1)
 unfolding bit
-answered ws t r i sets above after lows a d ed e bs ns ready =
+answered ws r i sets above after lows a d ed e bs ns sound =
     let p : Pool = over bs ns ws in
     let end : ℕ = i + (d / 64 + 1) * 64 in
     let first : AllRight p end end (r + 1) (kept sets above) =
@@ -281,8 +280,8 @@ answered ws t r i sets above after lows a d ed e bs ns ready =
       fits_above = omega (arith, a.fits_above);
     } in
     let last : AllRight p i end (r + 1) (sweeps ws i (r + 1) (d / 64 + 1) (kept sets above)) =
-    swept_all p ready.sound i end (r + 1) (omega (arith, a.row)) (d / 64 + 1) (kept sets above) first in
+    swept_all p sound i end (r + 1) (omega (arith, a.row)) (d / 64 + 1) (kept sets above) first in
     let same : after ≡ last.sets = ap sets_of (e ∙ last.is) in
-    let deep : d ≡ depth (expr_at p r) = ed ∙ depth-word p ready.sound r a.row in
+    let deep : d ≡ depth (expr_at p r) = ed ∙ depth-word p sound r a.row in
     ap (λ (l : List ℕ). bit 0 (get_or l r 0)) same ∙ (last.right r (omega arith)).says 0 (omega arith) (omega (arith, deep))
     ∙ ap (λ (v : ℕ). occurs v (expr_at p r)) (add-zero i)

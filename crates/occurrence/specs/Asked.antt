@@ -1,6 +1,6 @@
 -- What a search of few steps tells.
-use Rattle.std.specs.Prelude.{ℕ, Bool, true, false, ◌≡◌}
+use Rattle.std.specs.Prelude.{Bool, Option, Some, ◌≡◌}
 
-pub record Told (asked : Bool) (v : ℕ) : Type 0 where
-  pub no : v ≡ 0 → asked ≡ false
-  pub yes : v ≡ 1 → asked ≡ true
+-- what it answers, where it answers
+abbrev pub Told : Bool → Option Bool → Type 0
+Told asked v = (b : Bool) → v ≡ Some b → asked ≡ b

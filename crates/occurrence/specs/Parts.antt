@@ -1,6 +1,6 @@
 -- The parts of an expression row: at most two that stand under the same variables, and at most one under one more. Each is a
 -- row and one, or 0 where there is none.
-use Rattle.std.specs.Prelude.{ℕ, zero, suc, ◌+◌, Bool, false, cond, List, ltb, eqb}
+use Rattle.std.specs.Prelude.{ℕ, zero, suc, ◌+◌, Bool, false, ◌||◌, cond, List, eqb}
 use Rattle.pool.specs.Tables.{Pool, expr_word}
 use Rattle.pool.specs.Tree.{occurs}
 use Rattle.pool.specs.Unfold.{expr_at}
@@ -9,14 +9,14 @@ use Rattle.pool.specs.Unfold.{expr_at}
 unfoldable pub first_part : List ℕ → ℕ → ℕ → ℕ
 first_part ws r k =
     cond (eqb k 3) (expr_word ws r 1 + 1)
-    (cond (eqb k 6) (expr_word ws r 2 + 1)
-    (cond (eqb k 7) (expr_word ws r 3 + 1) (cond (ltb k 4) 0 (cond (ltb k 6) (expr_word ws r 3 + 1) 0))))
+    (cond (eqb k 4 || eqb k 5) (expr_word ws r 3 + 1)
+    (cond (eqb k 6) (expr_word ws r 2 + 1) (cond (eqb k 7) (expr_word ws r 3 + 1) 0)))
 
 unfoldable pub second_part : List ℕ → ℕ → ℕ → ℕ
 second_part ws r k = cond (eqb k 3) (expr_word ws r 2 + 1) (cond (eqb k 6) (expr_word ws r 3 + 1) 0)
 
 unfoldable pub body_part : List ℕ → ℕ → ℕ → ℕ
-body_part ws r k = cond (eqb k 6) (expr_word ws r 4 + 1) (cond (ltb k 4) 0 (cond (ltb k 6) (expr_word ws r 4 + 1) 0))
+body_part ws r k = cond (eqb k 4 || eqb k 5) (expr_word ws r 4 + 1) (cond (eqb k 6) (expr_word ws r 4 + 1) 0)
 
 -- whether the variable i occurs in a part
 unfoldable pub occurs_at : Pool → ℕ → ℕ → Bool

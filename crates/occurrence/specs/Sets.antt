@@ -1,10 +1,9 @@
 -- Sets of variables, 64 to a word: what a sweep keeps of each row, and what a step of it does.
 use Rattle.std.specs.Prelude.{ℕ, zero, suc, ◌+◌, ◌-◌, ◌*◌, ◌/◌, ◌%◌, ◌^◌, ◌<◌, Bool, cond, List, ◌≡◌, leb, ltb, eqb, get_or, set, length}
 use Rattle.std.specs.Int.Bits.{bit_or}
-use Rattle.pool.specs.declared.tables.Tables.{Tables}
 use Rattle.pool.specs.Tables.{E, expr_word}
-use Rattle.pool.specs.Areas.{over, WordsOf}
-use Rattle.pool.specs.Ready.{Ready}
+use Rattle.pool.specs.Areas.{over}
+use Rattle.pool.specs.Sound.{Sound}
 use Rattle.pool.specs.Tree.{occurs}
 use Rattle.pool.specs.Unfold.{expr_at}
 use Rattle.occurrence.specs.Parts.{first_part, second_part, body_part}
@@ -18,10 +17,14 @@ bit (suc k) w = bit k (w / 2)
 pub data Kept : Type 0 where
   kept : List ℕ → List ℕ → Kept
 
+-- what a table has of a part
+unfoldable pub entry_at : {A : Type 0} → A → List A → ℕ → A
+entry_at none table zero = none
+entry_at none table (suc r) = get_or table r none
+
 -- the word of a part, 0 where there is none
-unfoldable pub part_word : List ℕ → ℕ → ℕ
-part_word sets zero = 0
-part_word sets (suc r) = get_or sets r 0
+abbrev pub part_word : List ℕ → ℕ → ℕ
+part_word sets part = entry_at 0 sets part
 
 -- each variable one lower; the carry is the one after the 64
 abbrev pub lowered : ℕ → ℕ → ℕ
@@ -60,8 +63,7 @@ sweeps ws i n zero k = k
 sweeps ws i n (suc s) k = sweeps ws i n s (sweep_rows ws (i + s * 64) n 0 k)
 
 -- a sweep is asked of row r
-pub record Sweep (ws : List ℕ) (t : Tables) (r i : ℕ) (sets above : List ℕ) : Type 0 where
-  pub words : WordsOf ws t
+pub record Sweep (ws : List ℕ) (r i : ℕ) (sets above : List ℕ) : Type 0 where
   pub row : r < E ws
   pub fits : r < length sets
   pub fits_above : r < length above
@@ -69,5 +71,5 @@ pub record Sweep (ws : List ℕ) (t : Tables) (r i : ℕ) (sets above : List ℕ
   pub small : (j : ℕ) → get_or sets j 0 < 18446744073709551616
 
 -- and answers it, whatever the pool's bytes and names are
-abbrev pub Answers : List ℕ → Tables → ℕ → ℕ → Bool → Type 0
-Answers ws t r i v = (bs ns : List ℕ) → Ready bs ns ws t → v ≡ occurs i (expr_at (over bs ns ws) r)
+abbrev pub Answers : List ℕ → ℕ → ℕ → Bool → Type 0
+Answers ws r i v = (bs ns : List ℕ) → Sound (over bs ns ws) → v ≡ occurs i (expr_at (over bs ns ws) r)

@@ -1,177 +1,116 @@
 // Whether a loose variable occurs in the tree of a row.
 ghost use Rattle.std.specs.Prelude.{◌≡◌, ◌+◌, ◌<◌, ◌≤◌};
-ghost use Rattle.pool.specs.Areas.{lent};
+ghost use Rattle.pool.specs.Views.{lent};
 ghost use Rattle.pool.specs.Tables.{E};
 ghost use Rattle.pool.specs.Tree.{occurs};
 ghost use Rattle.pool.specs.Unfold.{expr_at};
-ghost use Rattle.pool.specs.Ready.{Ready};
 ghost use Rattle.occurrence.specs.Parts.{occurs_at};
 ghost use Rattle.occurrence.specs.Asked.{Told};
 
 use super::{parts, sweep};
-use pool::fields;
-use pool::tables::Tables;
+use pool::checked::CheckedPool;
+use pool::fields::{EXPR_KIND, EXPR_LOOSE};
 
-// What a short search tells: 0 that the variable does not occur, 1 that it does, 2 nothing, for want of steps; and the steps left.
-#[derive(Clone, Copy)]
-pub struct Tried {
-    pub answer: usize,
-    pub left: usize,
-}
-
-// The same search in a number of steps, and with no table.
+// In so many steps, which are taken off, and with no table; nothing where they do not do.
 #[cycle(try_row)]
-fn try_row(
-    bytes: &[u8],
-    names: &[u32],
-    words: &[u32],
-    t: Tables,
-    r: usize,
-    i: usize,
-    steps: usize,
-) -> Tried
-    requires { (Ready bytes.now names.now words.now t) × (r < E words.now) }
-    ensures { Told (occurs i (expr_at (lent bytes names words) r)) result.answer }
+fn try_row(pool: &CheckedPool<'_>, r: usize, i: usize, steps: &mut usize) -> Option<bool>
+    requires { r < E (lent pool.now).words }
+    ensures { Told (occurs i (expr_at (lent pool.now) r)) result }
 {
-    if steps == 0 {
-        return Tried { answer: 2, left: 0 };
-    }
-    let left = steps - 1;
-    let loose = fields::expr_loose(words, t, r);
+    *steps = steps.checked_sub(1)?;
+    let loose = pool.words.expr(r, EXPR_LOOSE);
     if loose <= i {
-        return Tried { answer: 0, left };
+        return Some(false);
     }
     if loose == i + 1 {
-        return Tried { answer: 1, left };
+        return Some(true);
     }
-    let kind = fields::expr_kind(words, t, r);
-    let first = parts::first_part(words, t, r, kind);
-    let a = try_part(bytes, names, words, t, first, i, left);
-    if a.answer != 0 {
-        return a;
+    let kind = pool.words.expr(r, EXPR_KIND);
+    let first = parts::first_part(&pool.words, r, kind);
+    if try_part(pool, first, i, steps)? {
+        return Some(true);
     }
-    let second = parts::second_part(words, t, r, kind);
-    let b = try_part(bytes, names, words, t, second, i, a.left);
-    if b.answer != 0 {
-        return b;
+    let second = parts::second_part(&pool.words, r, kind);
+    if try_part(pool, second, i, steps)? {
+        return Some(true);
     }
-    let body = parts::body_part(words, t, r, kind);
-    try_part(bytes, names, words, t, body, i + 1, b.left)
+    let body = parts::body_part(&pool.words, r, kind);
+    try_part(pool, body, i + 1, steps)
 }
 
+// A part that is not there has no variable.
 #[cycle(try_row)]
-fn try_part(
-    bytes: &[u8],
-    names: &[u32],
-    words: &[u32],
-    t: Tables,
-    part: usize,
-    i: usize,
-    steps: usize,
-) -> Tried
-    requires { (Ready bytes.now names.now words.now t) × (part ≤ E words.now) }
-    ensures { Told (occurs_at (lent bytes names words) i part) result.answer }
+fn try_part(pool: &CheckedPool<'_>, part: usize, i: usize, steps: &mut usize) -> Option<bool>
+    requires { part ≤ E (lent pool.now).words }
+    ensures { Told (occurs_at (lent pool.now) i part) result }
 {
     if part == 0 {
-        return Tried {
-            answer: 0,
-            left: steps,
-        };
+        return Some(false);
     }
-    try_row(bytes, names, words, t, part - 1, i, steps)
+    try_row(pool, part - 1, i, steps)
 }
 
 // The search with no end to its steps, for rows past every array of a sweep: an accepted pool has none.
 #[cycle(search)]
-fn search(bytes: &[u8], names: &[u32], words: &[u32], t: Tables, r: usize, i: usize) -> bool
-    requires { (Ready bytes.now names.now words.now t) × (r < E words.now) }
-    ensures { result ≡ occurs i (expr_at (lent bytes names words) r) }
+fn search(pool: &CheckedPool<'_>, r: usize, i: usize) -> bool
+    requires { r < E (lent pool.now).words }
+    ensures { result ≡ occurs i (expr_at (lent pool.now) r) }
 {
-    let loose = fields::expr_loose(words, t, r);
+    let loose = pool.words.expr(r, EXPR_LOOSE);
     if loose <= i {
         return false;
     }
     if loose == i + 1 {
         return true;
     }
-    let kind = fields::expr_kind(words, t, r);
-    let first = parts::first_part(words, t, r, kind);
-    if look(bytes, names, words, t, first, i) {
-        return true;
-    }
-    let second = parts::second_part(words, t, r, kind);
-    if look(bytes, names, words, t, second, i) {
-        return true;
-    }
-    let body = parts::body_part(words, t, r, kind);
-    look(bytes, names, words, t, body, i + 1)
+    let kind = pool.words.expr(r, EXPR_KIND);
+    let first = parts::first_part(&pool.words, r, kind);
+    let second = parts::second_part(&pool.words, r, kind);
+    let body = parts::body_part(&pool.words, r, kind);
+    look(pool, first, i) || look(pool, second, i) || look(pool, body, i + 1)
 }
 
-// A part that is not there has no variable.
 #[cycle(search)]
-fn look(bytes: &[u8], names: &[u32], words: &[u32], t: Tables, part: usize, i: usize) -> bool
-    requires { (Ready bytes.now names.now words.now t) × (part ≤ E words.now) }
-    ensures { result ≡ occurs_at (lent bytes names words) i part }
+fn look(pool: &CheckedPool<'_>, part: usize, i: usize) -> bool
+    requires { part ≤ E (lent pool.now).words }
+    ensures { result ≡ occurs_at (lent pool.now) i part }
 {
-    if part == 0 {
-        return false;
-    }
-    search(bytes, names, words, t, part - 1, i)
+    part != 0 && search(pool, part - 1, i)
 }
 
-// One sweep over the rows up to r.
-fn sweep_all(bytes: &[u8], names: &[u32], words: &[u32], t: Tables, r: usize, i: usize) -> bool
-    requires { (Ready bytes.now names.now words.now t) × (r < E words.now) }
-    ensures { result ≡ occurs i (expr_at (lent bytes names words) r) }
+// One sweep over the rows up to r. The arrays are as long as the pool asks, so that a small one clears little.
+fn sweep_all(pool: &CheckedPool<'_>, r: usize, i: usize) -> bool
+    requires { r < E (lent pool.now).words }
+    ensures { result ≡ occurs i (expr_at (lent pool.now) r) }
 {
-    if fields::expr_loose(words, t, r) <= i {
+    if pool.words.expr(r, EXPR_LOOSE) <= i {
         return false;
     }
     if r < 256 {
-        return sweep::few(words, t, r, i);
+        return sweep::swept::<256>(&pool.words, r, i);
     }
     if r < 4096 {
-        return sweep::more(words, t, r, i);
+        return sweep::swept::<4096>(&pool.words, r, i);
     }
     if r < 65536 {
-        return sweep::many(words, t, r, i);
+        return sweep::swept::<65536>(&pool.words, r, i);
     }
-    search(bytes, names, words, t, r, i)
+    search(pool, r, i)
 }
 
 // Most questions are answered in few steps. Where they are not, sixteen times as many are tried once more, if a sweep would go over more
 // rows than were tried.
-fn settle(
-    bytes: &[u8],
-    names: &[u32],
-    words: &[u32],
-    t: Tables,
-    r: usize,
-    i: usize,
-    steps: usize,
-) -> bool
-    requires { (Ready bytes.now names.now words.now t) × (r < E words.now) × (0 < steps) }
-    ensures { result ≡ occurs i (expr_at (lent bytes names words) r) }
+pub fn has_var(pool: &CheckedPool<'_>, r: usize, i: usize) -> bool
+    requires { r < E (lent pool.now).words }
+    ensures { result ≡ occurs i (expr_at (lent pool.now) r) }
 {
-    let tried = try_row(bytes, names, words, t, r, i, steps);
-    if tried.answer == 0 {
-        return false;
+    if let Some(answer) = try_row(pool, r, i, &mut 256) {
+        return answer;
     }
-    if tried.answer == 1 {
-        return true;
+    if 256 < r {
+        if let Some(answer) = try_row(pool, r, i, &mut 4096) {
+            return answer;
+        }
     }
-    if r <= steps {
-        return sweep_all(bytes, names, words, t, r, i);
-    }
-    if steps < 4096 {
-        return settle(bytes, names, words, t, r, i, steps * 16);
-    }
-    sweep_all(bytes, names, words, t, r, i)
-}
-
-pub fn has_var(bytes: &[u8], names: &[u32], words: &[u32], t: Tables, r: usize, i: usize) -> bool
-    requires { (Ready bytes.now names.now words.now t) × (r < E words.now) }
-    ensures { result ≡ occurs i (expr_at (lent bytes names words) r) }
-{
-    settle(bytes, names, words, t, r, i, 256)
+    sweep_all(pool, r, i)
 }

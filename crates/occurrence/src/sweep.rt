@@ -1,37 +1,21 @@
 // One sweep over the rows tells of each which of 64 variables occur in its tree; at most four sweeps, from the highest variables down, tell
 // of all that a tree of the greatest depth can ask.
-ghost use Rattle.std.specs.Prelude.{◌≡◌, ◌+◌, ◌*◌, ◌%◌, ◌<◌, ◌≤◌, length, replicate};
-ghost use Rattle.std.specs.Int.Bits.{bit_or};
-ghost use Rattle.pool.specs.Areas.{WordsOf};
+ghost use Rattle.std.specs.Prelude.{◌≡◌, ◌+◌, ◌*◌, ◌<◌, ◌≤◌, length};
 ghost use Rattle.pool.specs.Tables.{E};
-ghost use Rattle.occurrence.specs.Sets.{kept, part_word, lowered, body_word, last_bit, row_word, row_step, sweep_rows, sweeps, Sweep, Answers};
+ghost use Rattle.occurrence.specs.Sets.{kept, entry_at, lowered, body_word, last_bit, row_word, row_step, sweep_rows, sweeps, Sweep, Answers};
 
 use super::parts;
-use pool::fields;
-use pool::tables::Tables;
+use pool::fields::{EXPR_DEPTH, EXPR_KIND, EXPR_LOOSE};
+use pool::words::Words;
 
-fn union(a: u64, b: u64) -> u64
-    ensures { result ≡ bit_or a b }
+// What a table has of a part.
+fn entry_at<T: Copy>(table: &[T], part: usize, none: T) -> T
+    ensures { result ≡ entry_at none table.now part }
 {
-    a | b
-}
-
-fn part_word(sets: &[u64], part: usize) -> u64
-    ensures { result ≡ part_word sets.now part }
-{
-    if part == 0 {
-        return 0;
+    if part == 0 || table.len() < part {
+        return none;
     }
-    if sets.len() < part {
-        return 0;
-    }
-    sets[part - 1]
-}
-
-fn wide(x: u8) -> u64
-    ensures { result ≡ x }
-{
-    x as u64
+    table[part - 1]
 }
 
 // Each variable one lower; the carry is the one after the 64.
@@ -41,25 +25,15 @@ fn lower(word: u64, carry: u64) -> u64
     word / 2 + carry % 2 * 9223372036854775808
 }
 
-fn carry_of(above: &[u8], part: usize) -> u64
-    ensures { result ≡ part_word above.now part }
-{
-    if part == 0 {
-        return 0;
-    }
-    if above.len() < part {
-        return 0;
-    }
-    wide(above[part - 1])
-}
-
+#[tactic(auto, unfolding(crate::specs::Sets::body_word))]
 fn body_word(sets: &[u64], above: &[u8], part: usize) -> u64
     ensures { result ≡ body_word sets.now above.now part }
 {
-    lower(part_word(sets, part), carry_of(above, part))
+    lower(entry_at(sets, part, 0), u64::from(entry_at(above, part, 0)))
 }
 
 // The greatest variable of a tree occurs in it.
+#[tactic(auto, using(crate::proofs::StepLaws::no_last, crate::proofs::StepLaws::a_last))]
 fn last_bit(loose: usize, base: usize) -> u64
     requires { base < loose }
     ensures { result ≡ last_bit loose base }
@@ -70,105 +44,77 @@ fn last_bit(loose: usize, base: usize) -> u64
     1u64 << (loose - base - 1)
 }
 
-fn row_word(words: &[u32], t: Tables, sets: &[u64], above: &[u8], base: usize, r: usize) -> u64
-    requires { WordsOf words.now t }
-    ensures { result ≡ row_word words.now sets.now above.now base r }
+#[tactic(auto, unfolding(crate::specs::Sets::row_word))]
+fn row_word(words: &Words<'_>, sets: &[u64], above: &[u8], base: usize, r: usize) -> u64
+    ensures { result ≡ row_word words.now.words.now sets.now above.now base r }
 {
-    let loose = fields::expr_loose(words, t, r);
+    let loose = words.expr(r, EXPR_LOOSE);
     if loose <= base {
         return 0;
     }
-    let kind = fields::expr_kind(words, t, r);
-    let first = part_word(sets, parts::first_part(words, t, r, kind));
-    let second = part_word(sets, parts::second_part(words, t, r, kind));
-    let body = body_word(sets, above, parts::body_part(words, t, r, kind));
-    union(last_bit(loose, base), union(first, union(second, body)))
+    let kind = words.expr(r, EXPR_KIND);
+    let first = entry_at(sets, parts::first_part(words, r, kind), 0);
+    let second = entry_at(sets, parts::second_part(words, r, kind), 0);
+    let body = body_word(sets, above, parts::body_part(words, r, kind));
+    last_bit(loose, base) | (first | (second | body))
 }
 
-fn low_bit(word: u64) -> u8
-    ensures { result ≡ word % 2 }
-{
-    (word % 2) as u8
-}
-
-fn row_step(words: &[u32], t: Tables, sets: &mut [u64], above: &mut [u8], base: usize, r: usize)
-    requires { (WordsOf words.now t) × (r < length sets.old) × (r < length above.old) }
+#[tactic(auto, unfolding(crate::specs::Sets::row_step))]
+fn row_step(words: &Words<'_>, sets: &mut [u64], above: &mut [u8], base: usize, r: usize)
+    requires { (r < length sets.old) × (r < length above.old) }
     ensures { kept sets.new above.new
-        ≡ row_step words.now base r (kept sets.old above.old) }
+        ≡ row_step words.now.words.now base r (kept sets.old above.old) }
 {
-    above[r] = low_bit(sets[r]);
-    let word = row_word(words, t, sets, above, base, r);
-    sets[r] = word;
+    above[r] = (sets[r] % 2) as u8;
+    sets[r] = row_word(words, sets, above, base, r);
 }
 
 // The words of the rows below n, of the variables from base on; before, they are of those from 64 later on.
-fn sweep(words: &[u32], t: Tables, sets: &mut [u64], above: &mut [u8], base: usize, n: usize)
-    requires { (WordsOf words.now t) × (n ≤ length sets.old) × (n ≤ length above.old) }
+fn sweep(words: &Words<'_>, sets: &mut [u64], above: &mut [u8], base: usize, n: usize)
+    requires { (n ≤ length sets.old) × (n ≤ length above.old) }
     ensures { kept sets.new above.new
-        ≡ sweep_rows words.now base n 0 (kept sets.old above.old) }
+        ≡ sweep_rows words.now.words.now base n 0 (kept sets.old above.old) }
 {
-    let mut r = 0;
-    while r < n {
-        row_step(words, t, sets, above, base, r);
-        r += 1;
+    for r in 0..n {
+        row_step(words, sets, above, base, r);
     }
 }
 
 fn sweep_each(
-    words: &[u32],
-    t: Tables,
+    words: &Words<'_>,
     sets: &mut [u64],
     above: &mut [u8],
     i: usize,
     n: usize,
     times: usize,
 )
-    requires { (WordsOf words.now t) × (n ≤ length sets.old) × (n ≤ length above.old)
+    requires { (n ≤ length sets.old) × (n ≤ length above.old)
         × (i + times * 64 ≤ 1099511627776) }
     ensures { kept sets.new above.new
-        ≡ sweeps words.now i n times (kept sets.old above.old) }
+        ≡ sweeps words.now.words.now i n times (kept sets.old above.old) }
 {
-    let mut s = times;
-    while 0 < s {
-        s -= 1;
-        sweep(words, t, sets, above, i + s * 64, n);
+    for s in (0..times).rev() {
+        sweep(words, sets, above, i + s * 64, n);
     }
 }
 
 // Whether i occurs in the tree of row r: as many sweeps as its depth asks.
-fn swept(words: &[u32], t: Tables, sets: &mut [u64], above: &mut [u8], r: usize, i: usize) -> bool
-    requires { Sweep words.now t r i sets.old above.old }
-    ensures { Answers words.now t r i result }
+fn answered(words: &Words<'_>, sets: &mut [u64], above: &mut [u8], r: usize, i: usize) -> bool
+    requires { Sweep words.now.words.now r i sets.old above.old }
+    ensures { Answers words.now.words.now r i result }
 {
-    let times = fields::expr_depth(words, t, r) / 64 + 1;
-    sweep_each(words, t, sets, above, i, r + 1, times);
+    let times = words.expr(r, EXPR_DEPTH) / 64 + 1;
+    sweep_each(words, sets, above, i, r + 1, times);
     sets[r] % 2 == 1
 }
 
-// The arrays are as long as the pool asks, so that a small one clears little.
-pub fn few(words: &[u32], t: Tables, r: usize, i: usize) -> bool
-    requires { (WordsOf words.now t) × (r < E words.now) × (r < 256) × (i < 4294967296) }
-    ensures { Answers words.now t r i result }
+// The same with arrays of N rows. They stay in a function of their own: whoever asks pays for them only where it comes to a sweep.
+#[inline(never)]
+pub fn swept<const N: usize>(words: &Words<'_>, r: usize, i: usize) -> bool
+    requires { (r < E words.now.words.now) × (r < N) × (N < 65537) × (i < 4294967296) }
+    ensures { Answers words.now.words.now r i result }
 {
-    let mut sets = [0u64; 256];
-    let mut above = [0u8; 256];
-    swept(words, t, &mut sets, &mut above, r, i)
-}
-
-pub fn more(words: &[u32], t: Tables, r: usize, i: usize) -> bool
-    requires { (WordsOf words.now t) × (r < E words.now) × (r < 4096) × (i < 4294967296) }
-    ensures { Answers words.now t r i result }
-{
-    let mut sets = [0u64; 4096];
-    let mut above = [0u8; 4096];
-    swept(words, t, &mut sets, &mut above, r, i)
-}
-
-pub fn many(words: &[u32], t: Tables, r: usize, i: usize) -> bool
-    requires { (WordsOf words.now t) × (r < E words.now) × (r < 65536) × (i < 4294967296) }
-    ensures { Answers words.now t r i result }
-{
-    let mut sets = [0u64; 65536];
-    let mut above = [0u8; 65536];
-    swept(words, t, &mut sets, &mut above, r, i)
+    let mut sets = [0u64; N];
+    let mut above = [0u8; N];
+    answered(words, &mut sets, &mut above, r, i)
 }

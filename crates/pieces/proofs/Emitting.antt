@@ -4,60 +4,44 @@ use native.Mathlib.Nat.{mod-eq_of_lt, pow-suc}
 use native.Mathlib.Omega.{arith}
 use mathlib.Core.Bool.{Bool, true, false, cond}
 use mathlib.Core.List.{List, [], ◌∷◌, ◌++◌}
-use mathlib.Core.Path.{◌≡◌, refl, ap, ◌∙◌}
-use lib.Dec.{ltb, leb, eqb}
-use borrow.Author.Tests.{lt-ltb, le-ltb}
-use Rattle.document.specs.declared.measures.Measures.{Measures}
-use Rattle.document.specs.Walk.{Marked, textᵐ, joinᵐ, breakᵐ, nestᵐ, groupᵐ, names}
-use Rattle.document.specs.Sink.{State, sink_of, stopped_at, refuse, put_row, put_byte, put_bytes, end_text, put_text, put_break, put_join, put_wrapped, put_nest, put_group}
-use Rattle.document.specs.Sink.{put_names, emit}
-use Rattle.document.specs.Sink.State.{state}
+use mathlib.Core.Path.{◌≡◌, refl, ap, ap₂, ◌∙◌}
+use lib.Dec.{ltb, eqb}
+use borrow.Author.Tests.{lt-ltb, le-ltb, eqb-true}
+use Rattle.basics.proofs.Booleans.{and_left, and_right}
+use Rattle.utf8.specs.Letterlike.{same_bytes}
+use Rattle.std.specs.Option.{is_none}
+use lib.ListN.{length, get_or}
+use Rattle.document.specs.Walk.{Marked, textᵐ, joinᵐ}
+use Rattle.document.specs.Sink.{State, written_of, put_byte, put_bytes, put_text, emit}
+use Rattle.document.proofs.Steps.{byte_stays, bytes_stay, emit_stays}
+use Rattle.document.proofs.Areas as areas
 use Rattle.pieces.specs.Docs.{tile_from, G, line, ◌⊹◌, quoted, Parenable, under, digits_to, digits}
-use Rattle.pieces.specs.Words.{word_at, word_bytes}
 use Rattle.pieces.specs.Tiles.{end_tile, put_tile}
 use Rattle.pieces.specs.Parens.{open_if, close_if}
 
 -- ---- a stopped sink stays as it is
 
-row_stays : (kind a b : ℕ) (m : Measures) (st : State) → eqb (sink_of st).stop 0 ≡ false → put_row kind a b m st ≡ st
-unfolding put_row
-row_stays kind a b m (state rows text s) e = rw e
+pub byte_stopped : (b : ℕ) (st : State) → is_none (written_of st).stop ≡ false → put_byte b st ≡ st
+byte_stopped = byte_stays
 
-pub byte_stopped : (b : ℕ) (st : State) → eqb (sink_of st).stop 0 ≡ false → put_byte b st ≡ st
-unfolding put_byte
-byte_stopped b (state rows text s) e = rw e
+pub bytes_stopped : (bs : List ℕ) (st : State) → is_none (written_of st).stop ≡ false → put_bytes bs st ≡ st
+bytes_stopped = bytes_stay
 
-pub bytes_stopped : (bs : List ℕ) (st : State) → eqb (sink_of st).stop 0 ≡ false → put_bytes bs st ≡ st
-unfolding put_bytes
-bytes_stopped [] st e = refl
-bytes_stopped (b ∷ bs) st e = ap (put_bytes bs) (byte_stopped b st e) ∙ bytes_stopped bs st e
-
-names_stay : (place count : ℕ) (st : State) → eqb (sink_of st).stop 0 ≡ false → put_names place count st ≡ st
-unfolding put_names refuse
-names_stay place count (state rows text s) e = go (leb count 1024)
-  where
-    go : (b : Bool) → cond b (state rows text s) (cond (eqb s.stop 0) (state rows text (stopped_at 7 place s)) (state rows text s)) ≡ state rows text s
-    go true = refl
-    go false = rw e
-
-pub emit_stopped : (d : Marked) (st : State) → eqb (sink_of st).stop 0 ≡ false → emit d st ≡ st
-unfolding emit put_text end_text put_break put_join put_wrapped
-emit_stopped (textᵐ s) st e = ap (end_text (sink_of st).text) (bytes_stopped s st e) ∙ row_stays _ _ _ _ st e
-emit_stopped (joinᵐ a b) st e = ap (λ (x : State). put_join (emit b x)) (emit_stopped a st e) ∙ ap put_join (emit_stopped b st e) ∙ row_stays _ _ _ _ st e
-emit_stopped (breakᵐ k) st e = row_stays _ _ _ _ st e
-emit_stopped (nestᵐ n d) st e = ap (put_nest n) (emit_stopped d st e) ∙ row_stays _ _ _ _ st e
-emit_stopped (groupᵐ d) st e = ap put_group (emit_stopped d st e) ∙ row_stays _ _ _ _ st e
-emit_stopped (names place count d) st e = ap (emit d) (names_stay place count st e) ∙ emit_stopped d st e
+pub emit_stopped : (d : Marked) (st : State) → is_none (written_of st).stop ≡ false → emit d st ≡ st
+emit_stopped = emit_stays
 
 -- ---- words
 
--- at a numeral both sides compute: `word_emits 16 st` is of `emit (quoted "forall") st`
-pub word_emits : (w : ℕ) (st : State) → put_text (word_bytes w) st ≡ emit (quoted (word_at w)) st
-unfolding emit quoted
-word_emits w st = refl
+-- a text of one byte
+pub one_byte : (bs : List ℕ) (st : State) → length bs ≡ 1 → put_text (get_or bs 0 0 ∷ []) st ≡ put_text bs st
+one_byte [] st e = absurd (omega arith)
+one_byte (b ∷ []) st e = refl
+one_byte (b ∷ (d ∷ bs)) st e = absurd (omega arith)
 
-arrow_emits : (st : State) → put_text (word_bytes 27) st ≡ emit (quoted "→") st
-arrow_emits st = word_emits 27 st
+-- a text that is put as a word
+pub text_emits : (bs : List ℕ) (d : Marked) (st : State) → textᵐ bs ≡ d → put_text bs st ≡ emit d st
+unfolding emit
+text_emits bs d st e = ap (λ (x : Marked). emit x st) e
 
 -- ---- parentheses
 
@@ -73,9 +57,16 @@ under_emits outer q st = go (ltb q.inner outer)
 -- ---- bytes
 
 pub bytes-append : (a b : List ℕ) (st : State) → put_bytes (a ++ b) st ≡ put_bytes b (put_bytes a st)
-unfolding put_bytes
-bytes-append [] b st = refl
-bytes-append (x ∷ a) b st = bytes-append a b (put_byte x st)
+bytes-append = areas.bytes-append
+
+-- the test of equal bytes
+pub same_eq : (xs ys : List ℕ) → same_bytes xs ys ≡ true → xs ≡ ys
+unfolding same_bytes
+same_eq [] [] e = refl
+same_eq [] (y ∷ ys) e = cc
+same_eq (x ∷ xs) [] e = cc
+same_eq (x ∷ xs) (y ∷ ys) e =
+    ap₂ (λ (z : ℕ) (zs : List ℕ). z ∷ zs) (eqb-true x y (and_left (eqb x y) (same_bytes xs ys) e)) (same_eq xs ys (and_right (eqb x y) (same_bytes xs ys) e))
 
 -- ---- digits
 
@@ -95,9 +86,9 @@ digits_more (suc k) n h =
     ap (λ (ds : List ℕ). cond (ltb n 10) ((48 + n) ∷ []) (ds ++ ((48 + n % 10) ∷ [])))
     (digits_more k (n / 10) (let e : 10 ^ suc (suc k) ≡ 10 ^ suc k * 10 = pow-suc 10 (suc k) in let l : n < 10 ^ suc k * 10 = omega arith in omega arith))
 
-pub digits-one : (n : ℕ) (st : State) → n < 10 → put_bytes (digits n) st ≡ put_byte (48 + n % 10) st
+pub digits_one : (n : ℕ) (st : State) → n < 10 → put_bytes (digits n) st ≡ put_byte (48 + n % 10) st
 unfolding digits digits_to put_bytes
-digits-one n st h = rw (lt-ltb n 10 h, mod-eq_of_lt h)
+digits_one n st h = rw (lt-ltb n 10 h, mod-eq_of_lt h)
 
 pub digits_on : (n : ℕ) (st : State) → n < 2 ^ 64 → 10 ≤ n → put_bytes (digits n) st ≡ put_byte (48 + n % 10) (put_bytes (digits (n / 10)) st)
 unfolding digits

@@ -1,3 +1,1 @@
-pub mod WordTable
 pub mod Emitting
-pub mod WordLaws

@@ -1,9 +1,10 @@
 // Numbers in digits.
 ghost use Rattle.std.specs.Prelude.{◌≡◌, ◌+◌, ◌%◌};
-ghost use Rattle.document.specs.Sink.{Leaves, put_bytes, emit};
+ghost use Rattle.document.specs.Sink.{put_bytes, emit};
+ghost use Rattle.document.specs.Leaves.{Leaves};
 ghost use Rattle.pieces.specs.Docs.{digits, number_doc};
 
-use document::sink::{Sink, end_text, put_byte};
+use document::sink::Sink;
 
 fn digit(n: u64) -> u8
     ensures { result ≡ 48 + n % 10 }
@@ -12,21 +13,22 @@ fn digit(n: u64) -> u8
 }
 
 // The bytes of a number's digits, without their row.
-pub fn put_digits(rows: &mut [u32], text: &mut [u8], s: Sink, n: u64) -> Sink
-    ensures { Leaves rows text s result (put_bytes (digits n)) }
+#[tactic(auto, using(crate::proofs::Emitting::digits_one, crate::proofs::Emitting::digits_on))]
+pub fn put_digits(sink: &mut Sink<'_>, n: u64)
+    ensures { Leaves sink.old sink.new (put_bytes (digits n)) }
 {
-    if n < 10 {
-        return put_byte(rows, text, s, digit(n));
+    if 10 <= n {
+        put_digits(sink, n / 10);
     }
-    let s = put_digits(rows, text, s, n / 10);
-    put_byte(rows, text, s, digit(n))
+    sink.put_byte(digit(n));
 }
 
 // A number's text.
-pub fn put_number(rows: &mut [u32], text: &mut [u8], s: Sink, n: u64) -> Sink
-    ensures { Leaves rows text s result (emit (number_doc n)) }
+#[tactic(auto, unfolding(document::specs::Sink::emit, document::specs::Sink::put_text, crate::specs::Docs::number_doc))]
+pub fn put_number(sink: &mut Sink<'_>, n: u64)
+    ensures { Leaves sink.old sink.new (emit (number_doc n)) }
 {
-    let from = s.text;
-    let s = put_digits(rows, text, s, n);
-    end_text(rows, text, s, from)
+    let from = sink.written.text;
+    put_digits(sink, n);
+    sink.end_text(from);
 }

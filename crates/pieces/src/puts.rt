@@ -1,6 +1,9 @@
 // The constant pieces between the parts of a chain.
-ghost use Rattle.std.specs.Prelude.{◌≡◌, ◌<◌, ◌≤◌};
-ghost use Rattle.document.specs.Sink.{Leaves, put_nest, put_group};
+#![tactic(auto, unfolding(crate::specs::Puts::put_colon, crate::specs::Puts::put_arrow, crate::specs::Puts::start_run, crate::specs::Puts::mark_run, crate::specs::Puts::end_run, crate::specs::Puts::end_group, crate::specs::Puts::open_group, crate::specs::Puts::close_group, crate::specs::Puts::end_proj, crate::specs::Puts::start_let, crate::specs::Puts::put_assign, crate::specs::Puts::end_let, crate::specs::Puts::join_piece, crate::specs::Puts::join_line, utf8::specs::Quoted::bytes, utf8::specs::Quoted::encode))]
+
+ghost use Rattle.std.specs.Prelude.{◌<◌, ◌≤◌};
+ghost use Rattle.document.specs.Sink.{put_nest, put_group};
+ghost use Rattle.document.specs.Leaves.{Leaves};
 ghost use Rattle.pieces.specs.Docs.{closing};
 ghost use Rattle.pieces.specs.Parens.{close_if};
 ghost use Rattle.pieces.specs.Tiles.{end_tile};
@@ -9,167 +12,159 @@ ghost use Rattle.pieces.specs.Puts.{end_proj, start_let, put_assign, end_let};
 
 use crate::digits::put_number;
 use crate::parens::close_paren;
-use crate::words::{
-    ARROW, ASSIGN, BLANK, CLOSE, COLON, COMMA, DOT, DOUBLE_ARROW, FORALL, FUN, LET, OPEN,
-    SEMICOLON, end_tile, join_line, join_word, put_word,
-};
-use document::sink::{Sink, put_break, put_group, put_join, put_nest};
+use crate::words::{closing, end_tile, join_line, join_word, opening, put_word};
+use document::sink::Sink;
 
 // " "+":"+|
-pub fn put_colon(rows: &mut [u32], text: &mut [u8], s: Sink) -> Sink
-    ensures { Leaves rows text s result put_colon }
+pub fn put_colon(sink: &mut Sink<'_>)
+    ensures { Leaves sink.old sink.new put_colon }
 {
-    let s = join_word(rows, text, s, BLANK);
-    let s = join_word(rows, text, s, COLON);
-    join_line(rows, text, s)
+    join_word(sink, b" ");
+    join_word(sink, b":");
+    join_line(sink);
 }
 
 // After the type of an arrow binder.
-pub fn put_arrow(rows: &mut [u32], text: &mut [u8], s: Sink, indent: u32) -> Sink
-    ensures { Leaves rows text s result (put_arrow indent) }
+pub fn put_arrow(sink: &mut Sink<'_>, indent: u32)
+    ensures { Leaves sink.old sink.new (put_arrow indent) }
 {
-    let s = put_group(rows, text, s);
-    let s = put_nest(rows, text, s, indent);
-    let s = join_word(rows, text, s, BLANK);
-    let s = join_word(rows, text, s, ARROW);
-    let s = join_line(rows, text, s);
-    put_group(rows, text, s)
+    sink.put_group();
+    sink.put_nest(indent);
+    join_word(sink, b" ");
+    // U+2192
+    join_word(sink, b"\xe2\x86\x92");
+    join_line(sink);
+    sink.put_group();
 }
 
 // Before the binders of a run of other pis, or of lambdas.
-pub fn start_run(rows: &mut [u32], text: &mut [u8], s: Sink, pis: bool) -> Sink
-    ensures { Leaves rows text s result (start_run pis) }
+pub fn start_run(sink: &mut Sink<'_>, pis: bool)
+    ensures { Leaves sink.old sink.new (start_run pis) }
 {
     if pis {
-        let s = put_word(rows, text, s, FORALL);
-        return join_word(rows, text, s, BLANK);
+        put_word(sink, b"forall");
+    } else {
+        put_word(sink, b"fun");
     }
-    let s = put_word(rows, text, s, FUN);
-    join_word(rows, text, s, BLANK)
+    join_word(sink, b" ");
 }
 
-fn mark_run(rows: &mut [u32], text: &mut [u8], s: Sink, pis: bool) -> Sink
-    ensures { Leaves rows text s result (mark_run pis) }
+fn mark_run(sink: &mut Sink<'_>, pis: bool)
+    ensures { Leaves sink.old sink.new (mark_run pis) }
 {
     if pis {
-        return join_word(rows, text, s, COMMA);
+        join_word(sink, b",");
+    } else {
+        join_word(sink, b" ");
+        join_word(sink, b"=>");
     }
-    let s = join_word(rows, text, s, BLANK);
-    join_word(rows, text, s, DOUBLE_ARROW)
 }
 
 // After them, up to the break.
-pub fn end_run(rows: &mut [u32], text: &mut [u8], s: Sink, indent: u32, pis: bool) -> Sink
-    ensures { Leaves rows text s result (end_run indent pis) }
+pub fn end_run(sink: &mut Sink<'_>, indent: u32, pis: bool)
+    ensures { Leaves sink.old sink.new (end_run indent pis) }
 {
-    let s = put_join(rows, text, s);
-    let s = mark_run(rows, text, s, pis);
-    let s = put_group(rows, text, s);
-    let s = put_nest(rows, text, s, indent);
-    join_line(rows, text, s)
+    sink.put_join();
+    mark_run(sink, pis);
+    sink.put_group();
+    sink.put_nest(indent);
+    join_line(sink);
 }
 
 // After the type of a group of binders.
-fn end_group(rows: &mut [u32], text: &mut [u8], s: Sink, indent: u32, style: usize) -> Sink
+#[tactic(auto, using(crate::proofs::Emitting::text_emits), unfolding(crate::specs::Puts::end_group))]
+fn end_group(sink: &mut Sink<'_>, indent: u32, style: usize)
     requires { style < 4 }
-    ensures { Leaves rows text s result (end_group indent (closing style)) }
+    ensures { Leaves sink.old sink.new (end_group indent (closing style)) }
 {
-    let s = put_group(rows, text, s);
-    let s = put_join(rows, text, s);
-    let s = put_join(rows, text, s);
-    let s = join_word(rows, text, s, CLOSE + style);
-    let s = put_group(rows, text, s);
-    put_nest(rows, text, s, indent)
+    sink.put_group();
+    sink.put_join();
+    sink.put_join();
+    join_word(sink, closing(style));
+    sink.put_group();
+    sink.put_nest(indent);
 }
 
 // Before the names of a group; after a break where it is a further one of a tile.
-pub fn open_group(rows: &mut [u32], text: &mut [u8], s: Sink, style: usize, first: bool) -> Sink
+#[tactic(auto, using(crate::proofs::Emitting::text_emits), unfolding(crate::specs::Puts::open_group))]
+pub fn open_group(sink: &mut Sink<'_>, style: usize, first: bool)
     requires { style < 4 }
-    ensures { Leaves rows text s result (open_group first style) }
+    ensures { Leaves sink.old sink.new (open_group first style) }
 {
-    if first {
-        return put_word(rows, text, s, OPEN + style);
+    if !first {
+        sink.put_break(1);
     }
-    let s = put_break(rows, text, s, 1);
-    put_word(rows, text, s, OPEN + style)
+    put_word(sink, opening(style));
 }
 
 // After the type of a group; joined to the tile so far where it is a further one.
-pub fn close_group(
-    rows: &mut [u32],
-    text: &mut [u8],
-    s: Sink,
-    indent: u32,
-    style: usize,
-    first: bool,
-) -> Sink
+pub fn close_group(sink: &mut Sink<'_>, indent: u32, style: usize, first: bool)
     requires { style < 4 }
-    ensures { Leaves rows text s result (close_group first indent style) }
+    ensures { Leaves sink.old sink.new (close_group first indent style) }
 {
-    let s = end_group(rows, text, s, indent, style);
-    if first {
-        return s;
+    end_group(sink, indent, style);
+    if !first {
+        end_tile(sink);
     }
-    end_tile(rows, text, s)
 }
 
 // After an argument of an application: it is grouped, and joined to the tile so far.
-pub fn end_argument(rows: &mut [u32], text: &mut [u8], s: Sink) -> Sink
-    ensures { Leaves rows text s result (λ st. end_tile (put_group st)) }
+pub fn end_argument(sink: &mut Sink<'_>)
+    ensures { Leaves sink.old sink.new (λ st. end_tile (put_group st)) }
 {
-    let s = put_group(rows, text, s);
-    end_tile(rows, text, s)
+    sink.put_group();
+    end_tile(sink);
 }
 
 // After the last one.
-pub fn end_app(rows: &mut [u32], text: &mut [u8], s: Sink, indent: u32, wrapped: bool) -> Sink
-    ensures { Leaves rows text s result (λ st. close_if wrapped (put_nest indent (put_group st))) }
+pub fn end_app(sink: &mut Sink<'_>, indent: u32, wrapped: bool)
+    ensures { Leaves sink.old sink.new (λ st. close_if wrapped (put_nest indent (put_group st))) }
 {
-    let s = put_group(rows, text, s);
-    let s = put_nest(rows, text, s, indent);
-    close_paren(rows, text, s, wrapped)
+    sink.put_group();
+    sink.put_nest(indent);
+    close_paren(sink, wrapped);
 }
 
 // After the structure of a projection; fields are counted from 1.
-pub fn end_proj(rows: &mut [u32], text: &mut [u8], s: Sink, i: usize) -> Sink
+pub fn end_proj(sink: &mut Sink<'_>, i: usize)
     requires { i ≤ 65534 }
-    ensures { Leaves rows text s result (end_proj i) }
+    ensures { Leaves sink.old sink.new (end_proj i) }
 {
-    let s = put_group(rows, text, s);
-    let s = join_word(rows, text, s, DOT);
-    let s = put_number(rows, text, s, (i + 1) as u64);
-    put_join(rows, text, s)
+    sink.put_group();
+    join_word(sink, b".");
+    put_number(sink, (i + 1) as u64);
+    sink.put_join();
 }
 
 // Before the name of a let.
-pub fn start_let(rows: &mut [u32], text: &mut [u8], s: Sink) -> Sink
-    ensures { Leaves rows text s result start_let }
+pub fn start_let(sink: &mut Sink<'_>)
+    ensures { Leaves sink.old sink.new start_let }
 {
-    let s = put_word(rows, text, s, LET);
-    join_word(rows, text, s, BLANK)
+    put_word(sink, b"let");
+    join_word(sink, b" ");
 }
 
 // Between the type and the value of a let.
-pub fn put_assign(rows: &mut [u32], text: &mut [u8], s: Sink) -> Sink
-    ensures { Leaves rows text s result put_assign }
+pub fn put_assign(sink: &mut Sink<'_>)
+    ensures { Leaves sink.old sink.new put_assign }
 {
-    let s = put_group(rows, text, s);
-    let s = put_join(rows, text, s);
-    let s = put_group(rows, text, s);
-    let s = put_join(rows, text, s);
-    let s = join_word(rows, text, s, BLANK);
-    let s = join_word(rows, text, s, ASSIGN);
-    join_line(rows, text, s)
+    sink.put_group();
+    sink.put_join();
+    sink.put_group();
+    sink.put_join();
+    join_word(sink, b" ");
+    join_word(sink, b":=");
+    join_line(sink);
 }
 
 // After the value of a let, up to the break before its body.
-pub fn end_let(rows: &mut [u32], text: &mut [u8], s: Sink, indent: u32) -> Sink
-    ensures { Leaves rows text s result (end_let indent) }
+pub fn end_let(sink: &mut Sink<'_>, indent: u32)
+    ensures { Leaves sink.old sink.new (end_let indent) }
 {
-    let s = put_group(rows, text, s);
-    let s = put_join(rows, text, s);
-    let s = join_word(rows, text, s, SEMICOLON);
-    let s = put_group(rows, text, s);
-    let s = put_nest(rows, text, s, indent);
-    join_line(rows, text, s)
+    sink.put_group();
+    sink.put_join();
+    join_word(sink, b";");
+    sink.put_group();
+    sink.put_nest(indent);
+    join_line(sink);
 }

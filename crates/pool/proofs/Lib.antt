@@ -1,5 +1,4 @@
 pub mod Clips
-pub mod TableWords
 pub mod Unfolds
 pub mod TreeLaws
 pub mod ExprUnfolds

@@ -1,23 +1,15 @@
 -- What the code knows of the tables: the counts and where each table starts, read off the head words once.
 use Rattle.std.specs.Prelude.{ℕ, ◌<◌, List, ◌≡◌}
-use Rattle.basics.specs.Lent.{Shared, Slice, held}
-use Rattle.pool.specs.declared.tables.Tables.{Tables}
+use Rattle.pool.specs.declared.tables.NameTables.{NameTables}
+use Rattle.pool.specs.declared.tables.WordTables.{WordTables}
 use Rattle.pool.specs.Tables.{Pool, S, N, L, K, Q, E, D, names_at, levels_at, lists_at, list_words_at, exprs_at, declars_at, total}
 
 -- the pool of a byte area, the words of the strings and names, and the words of the rest
 abbrev pub over : List ℕ → List ℕ → List ℕ → Pool
 over bs ns ws = record { bytes = bs; names = ns; words = ws }
 
--- the pool that a function is lent, in an `ensures`
-abbrev pub lent : Shared → Shared → Shared → Pool
-lent bytes names words = over (held bytes) (held names) (held words)
-
--- the same in a `requires`
-abbrev pub given : Slice → Slice → Slice → Pool
-given bytes names words = over bytes.now names.now words.now
-
 -- of the words that hold the strings and the names
-pub record NamesOf (ns : List ℕ) (t : Tables) : Type 0 where
+pub record NamesOf (ns : List ℕ) (t : NameTables) : Type 0 where
   pub strings : t.strings ≡ S ns
   pub names : t.names ≡ N ns
   pub strings_small : t.strings < 4294967296
@@ -25,7 +17,7 @@ pub record NamesOf (ns : List ℕ) (t : Tables) : Type 0 where
   pub names_at : t.names_at ≡ names_at ns
 
 -- of the words that hold the rest
-pub record WordsOf (ws : List ℕ) (t : Tables) : Type 0 where
+pub record WordsOf (ws : List ℕ) (t : WordTables) : Type 0 where
   pub levels : t.levels ≡ L ws
   pub lists : t.lists ≡ K ws
   pub entries : t.entries ≡ Q ws
@@ -38,7 +30,3 @@ pub record WordsOf (ws : List ℕ) (t : Tables) : Type 0 where
   pub declars_at : t.declars_at ≡ declars_at ws
   pub total : t.total ≡ total ws
   pub small : t.total < 1099511627776
-
-pub record TablesOf (ns ws : List ℕ) (t : Tables) : Type 0 where
-  pub of_names : NamesOf ns t
-  pub of_words : WordsOf ws t

@@ -8,4 +8,4 @@ pub mod Rules
 pub mod Areas
 pub mod Depths
 pub mod Sound
-pub mod Ready
+pub mod Views

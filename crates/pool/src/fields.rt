@@ -1,252 +1,85 @@
-// The fields of the rows by name: each is one word of a row, 0 past the end.
-ghost use Rattle.std.specs.Prelude.{◌≡◌, ◌<◌};
-ghost use Rattle.pool.specs.Tables.{name_word, level_word, list_word, expr_word, declar_word};
-ghost use Rattle.pool.specs.Areas.{NamesOf, WordsOf};
+// The words of each table's rows by name.
 
-use crate::tables::{Tables, declar_word, expr_word, level_word, list_word, name_word};
+// A string's.
+pub const STRING_OFFSET: usize = 0;
 
-// The words of a name: its kind, the row before its last component, a string row or the low half of a number, the high half.
-pub fn name_kind(names: &[u32], t: Tables, r: usize) -> usize
-    requires { NamesOf names.now t }
-    ensures { (result ≡ name_word names.now r 0) × (result < 4294967296) }
-{
-    name_word(names, t, r, 0)
-}
+pub const STRING_LENGTH: usize = 1;
 
-pub fn name_prefix(names: &[u32], t: Tables, r: usize) -> usize
-    requires { NamesOf names.now t }
-    ensures { (result ≡ name_word names.now r 1) × (result < 4294967296) }
-{
-    name_word(names, t, r, 1)
-}
+// A name's: its kind, the row before its last component, a string row or the low half of a number, the high half.
+pub const NAME_KIND: usize = 0;
 
-pub fn name_low(names: &[u32], t: Tables, r: usize) -> usize
-    requires { NamesOf names.now t }
-    ensures { (result ≡ name_word names.now r 2) × (result < 4294967296) }
-{
-    name_word(names, t, r, 2)
-}
+pub const NAME_PREFIX: usize = 1;
 
-pub fn name_high(names: &[u32], t: Tables, r: usize) -> usize
-    requires { NamesOf names.now t }
-    ensures { (result ≡ name_word names.now r 3) × (result < 4294967296) }
-{
-    name_word(names, t, r, 3)
-}
+pub const NAME_LOW: usize = 2;
 
-// Of a level: its kind; the level or name that it is made of, the second level.
-pub fn level_kind(words: &[u32], t: Tables, r: usize) -> usize
-    requires { WordsOf words.now t }
-    ensures { (result ≡ level_word words.now r 0) × (result < 4294967296) }
-{
-    level_word(words, t, r, 0)
-}
+pub const NAME_HIGH: usize = 3;
 
-pub fn level_first(words: &[u32], t: Tables, r: usize) -> usize
-    requires { WordsOf words.now t }
-    ensures { (result ≡ level_word words.now r 1) × (result < 4294967296) }
-{
-    level_word(words, t, r, 1)
-}
+// A level's: its kind; the level or name that it is made of, the second level.
+pub const LEVEL_KIND: usize = 0;
 
-pub fn level_second(words: &[u32], t: Tables, r: usize) -> usize
-    requires { WordsOf words.now t }
-    ensures { (result ≡ level_word words.now r 2) × (result < 4294967296) }
-{
-    level_word(words, t, r, 2)
-}
+pub const LEVEL_FIRST: usize = 1;
 
-// Of a list: its first list word, and how many it has.
-pub fn list_offset(words: &[u32], t: Tables, r: usize) -> usize
-    requires { WordsOf words.now t }
-    ensures { (result ≡ list_word words.now r 0) × (result < 4294967296) }
-{
-    list_word(words, t, r, 0)
-}
+pub const LEVEL_SECOND: usize = 2;
 
-pub fn list_length(words: &[u32], t: Tables, r: usize) -> usize
-    requires { WordsOf words.now t }
-    ensures { (result ≡ list_word words.now r 1) × (result < 4294967296) }
-{
-    list_word(words, t, r, 1)
-}
+// A list's: its first list word, and how many it has.
+pub const LIST_OFFSET: usize = 0;
 
-// Of an expression: its kind, depth and loose.
-pub fn expr_kind(words: &[u32], t: Tables, r: usize) -> usize
-    requires { WordsOf words.now t }
-    ensures { (result ≡ expr_word words.now r 0) × (result < 4294967296) }
-{
-    expr_word(words, t, r, 0)
-}
+pub const LIST_LENGTH: usize = 1;
 
-pub fn expr_depth(words: &[u32], t: Tables, r: usize) -> usize
-    requires { WordsOf words.now t }
-    ensures { (result ≡ expr_word words.now r 6) × (result < 4294967296) }
-{
-    expr_word(words, t, r, 6)
-}
+// An expression's: its kind, depth and loose, and the fields of each kind.
+pub const EXPR_KIND: usize = 0;
 
-pub fn expr_loose(words: &[u32], t: Tables, r: usize) -> usize
-    requires { WordsOf words.now t }
-    ensures { (result ≡ expr_word words.now r 7) × (result < 4294967296) }
-{
-    expr_word(words, t, r, 7)
-}
+pub const EXPR_DEPTH: usize = 6;
 
-// The fields of each kind.
-pub fn var_index(words: &[u32], t: Tables, r: usize) -> usize
-    requires { WordsOf words.now t }
-    ensures { (result ≡ expr_word words.now r 1) × (result < 4294967296) }
-{
-    expr_word(words, t, r, 1)
-}
+pub const EXPR_LOOSE: usize = 7;
 
-pub fn sort_level(words: &[u32], t: Tables, r: usize) -> usize
-    requires { WordsOf words.now t }
-    ensures { (result ≡ expr_word words.now r 1) × (result < 4294967296) }
-{
-    expr_word(words, t, r, 1)
-}
+pub const VAR_INDEX: usize = 1;
 
-pub fn const_name(words: &[u32], t: Tables, r: usize) -> usize
-    requires { WordsOf words.now t }
-    ensures { (result ≡ expr_word words.now r 1) × (result < 4294967296) }
-{
-    expr_word(words, t, r, 1)
-}
+pub const SORT_LEVEL: usize = 1;
 
-// A natural or a string literal.
-pub fn literal_string(words: &[u32], t: Tables, r: usize) -> usize
-    requires { WordsOf words.now t }
-    ensures { (result ≡ expr_word words.now r 1) × (result < 4294967296) }
-{
-    expr_word(words, t, r, 1)
-}
+pub const CONST_NAME: usize = 1;
 
-pub fn const_list(words: &[u32], t: Tables, r: usize) -> usize
-    requires { WordsOf words.now t }
-    ensures { (result ≡ expr_word words.now r 2) × (result < 4294967296) }
-{
-    expr_word(words, t, r, 2)
-}
+pub const CONST_LIST: usize = 2;
 
-pub fn app_function(words: &[u32], t: Tables, r: usize) -> usize
-    requires { WordsOf words.now t }
-    ensures { (result ≡ expr_word words.now r 1) × (result < 4294967296) }
-{
-    expr_word(words, t, r, 1)
-}
+// Of a natural or a string literal.
+pub const LITERAL_STRING: usize = 1;
 
-pub fn app_argument(words: &[u32], t: Tables, r: usize) -> usize
-    requires { WordsOf words.now t }
-    ensures { (result ≡ expr_word words.now r 2) × (result < 4294967296) }
-{
-    expr_word(words, t, r, 2)
-}
+pub const APP_FUNCTION: usize = 1;
 
-// A pi or a lambda.
-pub fn binder_name(words: &[u32], t: Tables, r: usize) -> usize
-    requires { WordsOf words.now t }
-    ensures { (result ≡ expr_word words.now r 1) × (result < 4294967296) }
-{
-    expr_word(words, t, r, 1)
-}
+pub const APP_ARGUMENT: usize = 2;
 
-pub fn binder_style(words: &[u32], t: Tables, r: usize) -> usize
-    requires { WordsOf words.now t }
-    ensures { (result ≡ expr_word words.now r 2) × (result < 4294967296) }
-{
-    expr_word(words, t, r, 2)
-}
+// Of a pi or a lambda.
+pub const BINDER_NAME: usize = 1;
 
-pub fn binder_type(words: &[u32], t: Tables, r: usize) -> usize
-    requires { WordsOf words.now t }
-    ensures { (result ≡ expr_word words.now r 3) × (result < 4294967296) }
-{
-    expr_word(words, t, r, 3)
-}
+pub const BINDER_STYLE: usize = 2;
 
-pub fn binder_body(words: &[u32], t: Tables, r: usize) -> usize
-    requires { WordsOf words.now t }
-    ensures { (result ≡ expr_word words.now r 4) × (result < 4294967296) }
-{
-    expr_word(words, t, r, 4)
-}
+pub const BINDER_TYPE: usize = 3;
 
-pub fn let_name(words: &[u32], t: Tables, r: usize) -> usize
-    requires { WordsOf words.now t }
-    ensures { (result ≡ expr_word words.now r 1) × (result < 4294967296) }
-{
-    expr_word(words, t, r, 1)
-}
+pub const BINDER_BODY: usize = 4;
 
-pub fn let_type(words: &[u32], t: Tables, r: usize) -> usize
-    requires { WordsOf words.now t }
-    ensures { (result ≡ expr_word words.now r 2) × (result < 4294967296) }
-{
-    expr_word(words, t, r, 2)
-}
+pub const LET_NAME: usize = 1;
 
-pub fn let_value(words: &[u32], t: Tables, r: usize) -> usize
-    requires { WordsOf words.now t }
-    ensures { (result ≡ expr_word words.now r 3) × (result < 4294967296) }
-{
-    expr_word(words, t, r, 3)
-}
+pub const LET_TYPE: usize = 2;
 
-pub fn let_body(words: &[u32], t: Tables, r: usize) -> usize
-    requires { WordsOf words.now t }
-    ensures { (result ≡ expr_word words.now r 4) × (result < 4294967296) }
-{
-    expr_word(words, t, r, 4)
-}
+pub const LET_VALUE: usize = 3;
 
-pub fn proj_index(words: &[u32], t: Tables, r: usize) -> usize
-    requires { WordsOf words.now t }
-    ensures { (result ≡ expr_word words.now r 2) × (result < 4294967296) }
-{
-    expr_word(words, t, r, 2)
-}
+pub const LET_BODY: usize = 4;
 
-pub fn proj_structure(words: &[u32], t: Tables, r: usize) -> usize
-    requires { WordsOf words.now t }
-    ensures { (result ≡ expr_word words.now r 3) × (result < 4294967296) }
-{
-    expr_word(words, t, r, 3)
-}
+pub const LET_NONDEP: usize = 5;
 
-// Of a declaration.
-pub fn declar_kind(words: &[u32], t: Tables, r: usize) -> usize
-    requires { WordsOf words.now t }
-    ensures { (result ≡ declar_word words.now r 0) × (result < 4294967296) }
-{
-    declar_word(words, t, r, 0)
-}
+pub const PROJ_NAME: usize = 1;
 
-pub fn declar_name(words: &[u32], t: Tables, r: usize) -> usize
-    requires { WordsOf words.now t }
-    ensures { (result ≡ declar_word words.now r 1) × (result < 4294967296) }
-{
-    declar_word(words, t, r, 1)
-}
+pub const PROJ_INDEX: usize = 2;
 
-pub fn declar_list(words: &[u32], t: Tables, r: usize) -> usize
-    requires { WordsOf words.now t }
-    ensures { (result ≡ declar_word words.now r 2) × (result < 4294967296) }
-{
-    declar_word(words, t, r, 2)
-}
+pub const PROJ_STRUCTURE: usize = 3;
 
-pub fn declar_type(words: &[u32], t: Tables, r: usize) -> usize
-    requires { WordsOf words.now t }
-    ensures { (result ≡ declar_word words.now r 3) × (result < 4294967296) }
-{
-    declar_word(words, t, r, 3)
-}
+// A declaration's.
+pub const DECLAR_KIND: usize = 0;
 
-pub fn declar_value(words: &[u32], t: Tables, r: usize) -> usize
-    requires { WordsOf words.now t }
-    ensures { (result ≡ declar_word words.now r 4) × (result < 4294967296) }
-{
-    declar_word(words, t, r, 4)
-}
+pub const DECLAR_NAME: usize = 1;
+
+pub const DECLAR_LIST: usize = 2;
+
+pub const DECLAR_TYPE: usize = 3;
+
+pub const DECLAR_VALUE: usize = 4;

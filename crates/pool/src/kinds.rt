@@ -1,9 +1,4 @@
-// The kinds of the rows of each table, and the words of a pair, as document 01 numbers them.
-
-// A string: (offset, length).
-pub const OFFSET: usize = 0;
-
-pub const LENGTH: usize = 1;
+// The kinds of the rows of each table, as document 01 numbers them.
 
 // Names.
 pub const NAME_ANONYMOUS: usize = 0;

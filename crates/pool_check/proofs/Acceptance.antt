@@ -7,27 +7,16 @@ use mathlib.Core.Path.{◌≡◌, refl, ap, ◌∙◌}
 use lib.Dec.{leb, ltb, eqb}
 use lib.ListN.{length}
 use borrow.Author.Tests.{ltb-true, ltb-false, leb-true, eqb-true, eqb-false}
-use Rattle.pool_check.specs.declared.Verdict.{Verdict}
-use Rattle.pool_check.specs.declared.Verdict.TheVariants.{Accepted, Words, Limit, Strings, Rows}
+use Rattle.std.specs.Prelude.{Result, Ok, Err}
+use Rattle.pool_check.specs.declared.PoolError.{PoolError}
+use Rattle.pool_check.specs.declared.PoolError.TheVariants.{Words, Limit, Strings, Rows}
+use Rattle.pool_check.specs.Stages.{Limited}
 use Rattle.pool.specs.Tables.{Pool, pool, S, N, L, K, Q, E, D, total}
 use Rattle.pool.specs.Rules.{string_ok, name_ok, level_ok, list_ok, list_entry_ok, expr_ok, declar_ok}
 use Rattle.pool.specs.Sound.{Sound}
 use Rattle.byte_check.specs.Scan.{first_bad}
 use Rattle.pool_check.specs.Check.{number, is_accepted, in_table, refusal, words_ok, limits_ok, rows_verdict, verdict}
 use Rattle.basics.proofs.Booleans.{and_left, and_right, false-true}
-
--- the words are as many as the head says, and the counts and the byte area are within their limits
-pub record Limited (bs ws : List ℕ) : Type 0 where
-  pub head : 7 ≤ length ws
-  pub whole : total ws ≡ length ws
-  pub strings : S ws ≤ 65536
-  pub names : N ws ≤ 65536
-  pub levels : L ws ≤ 65536
-  pub lists : K ws ≤ 65536
-  pub entries : Q ws ≤ 65536
-  pub exprs : E ws ≤ 65536
-  pub declars : D ws ≤ 65536
-  pub bytes : length bs ≤ 16777216
 
 apart : (r i : ℕ) → i ≤ r → (r ≡ i → ⊥) → i < r
 apart r i l n = by (ltb i r) refl
@@ -56,34 +45,28 @@ all_passed ok (suc left) i h r l g =
     step_passed ok left i r l g (ok i) refl h (λ k m n. all_passed ok left (suc i) k r m n)
 
 -- a table that was passed
-table_passed : (ok : ℕ → Bool) (count : ℕ) (refused : ℕ → Verdict) (next : Verdict) → ((r : ℕ) → refused r ≡ Accepted → ⊥)
-    → in_table ok count refused next ≡ Accepted → ((r : ℕ) → r < count → ok r ≡ true) × (next ≡ Accepted)
-table_passed ok count refused next never h = by (ltb (first_bad ok count 0) count) refl h
+table_passed : (ok : ℕ → Bool) (count : ℕ) (refused : ℕ → PoolError) (next : Result Unit PoolError)
+    → in_table ok count refused next ≡ Ok tt → ((r : ℕ) → r < count → ok r ≡ true) × (next ≡ Ok tt)
+table_passed ok count refused next h = by (ltb (first_bad ok count 0) count) refl h
   where
-    by : (b : Bool) → ltb (first_bad ok count 0) count ≡ b → cond b (refused (first_bad ok count 0)) next ≡ Accepted
-        → ((r : ℕ) → r < count → ok r ≡ true) × (next ≡ Accepted)
-    by true e k = absurd (never _ k)
+    by : (b : Bool) → ltb (first_bad ok count 0) count ≡ b → cond b (Err (refused (first_bad ok count 0))) next ≡ Ok tt
+        → ((r : ℕ) → r < count → ok r ≡ true) × (next ≡ Ok tt)
+    by true e k = absurd (cc)
     by false e k =
         let g : count ≤ first_bad ok count 0 = ltb-false (first_bad ok count 0) count e in
         ((λ r l. all_passed ok count 0 (omega arith) r (omega arith) (omega arith)), k)
 
-rows_never : (r : ℕ) → Rows r ≡ Accepted → ⊥
-rows_never r h = let z : ◌≡◌ {A = ℕ} 0 1 = cc in omega arith
-
-strings_never : (r : ℕ) → Strings r ≡ Accepted → ⊥
-strings_never r h = let z : ◌≡◌ {A = ℕ} 0 1 = cc in omega arith
-
 -- no row is refused: every row keeps its rule
-pub rows_accepted : (p : Pool) → rows_verdict p ≡ Accepted → Sound p
+pub rows_accepted : (p : Pool) → rows_verdict p ≡ Ok tt → Sound p
 unfolding rows_verdict
 rows_accepted p h =
-    let a = table_passed (string_ok p) (S p.names) Strings _ strings_never h in
-    let b = table_passed (name_ok p) (N p.names) Rows _ rows_never a.1 in
-    let c = table_passed (level_ok p) (L p.words) Rows _ rows_never b.1 in
-    let d = table_passed (list_ok p) (K p.words) Rows _ rows_never c.1 in
-    let e = table_passed (list_entry_ok p) (Q p.words) Rows _ rows_never d.1 in
-    let f = table_passed (expr_ok p) (E p.words) Rows _ rows_never e.1 in
-    let g = table_passed (declar_ok p) (D p.words) Rows _ rows_never f.1 in
+    let a = table_passed (string_ok p) (S p.names) Strings _ h in
+    let b = table_passed (name_ok p) (N p.names) Rows _ a.1 in
+    let c = table_passed (level_ok p) (L p.words) Rows _ b.1 in
+    let d = table_passed (list_ok p) (K p.words) Rows _ c.1 in
+    let e = table_passed (list_entry_ok p) (Q p.words) Rows _ d.1 in
+    let f = table_passed (expr_ok p) (E p.words) Rows _ e.1 in
+    let g = table_passed (declar_ok p) (D p.words) Rows _ f.1 in
     record { strings = a.0; names = b.0; levels = c.0; lists = d.0; entries = e.0; exprs = f.0; declars = g.0 }
 
 limited : (bs ws : List ℕ) → words_ok ws ≡ true → limits_ok bs ws ≡ true → Limited bs ws
@@ -108,29 +91,20 @@ limited bs ws u v =
     }
 
 -- an accepted pool is within its limits and sound
-pub accepted : (bs ws : List ℕ) → verdict bs ws ≡ Accepted → Limited bs ws × Sound (pool bs ws)
+pub accepted : (bs ws : List ℕ) → verdict bs ws ≡ Ok tt → Limited bs ws × Sound (pool bs ws)
 unfolding verdict
 accepted bs ws h = by (words_ok ws) (limits_ok bs ws) refl refl h
   where
-    by : (a b : Bool) → words_ok ws ≡ a → limits_ok bs ws ≡ b → cond a (cond b (rows_verdict (pool bs ws)) (refusal 2 0)) (refusal 1 0) ≡ Accepted
+    by : (a b : Bool) → words_ok ws ≡ a → limits_ok bs ws ≡ b → cond a (cond b (rows_verdict (pool bs ws)) (Err (refusal 2 0))) (Err (refusal 1 0)) ≡ Ok tt
         → Limited bs ws × Sound (pool bs ws)
     by true true u v k = (limited bs ws u v, rows_accepted (pool bs ws) k)
-    by true false u v k = absurd (let z : ◌≡◌ {A = ℕ} 0 1 = cc in omega arith)
-    by false b u v k = absurd (let z : ◌≡◌ {A = ℕ} 0 1 = cc in omega arith)
+    by true false u v k = absurd (cc)
+    by false b u v k = absurd (cc)
 
-pub accepted_is : (v : Verdict) → is_accepted v ≡ true → v ≡ Accepted
+pub accepted_is : (v : Result Unit PoolError) → is_accepted v ≡ true → v ≡ Ok tt
 unfolding is_accepted number
-accepted_is Accepted e = refl
-accepted_is Words e = false-true e
-accepted_is Limit e = false-true e
-accepted_is (Strings row) e = false-true e
-accepted_is (Rows row) e = false-true e
-
--- what the code's last arm knows: the verdict is none of the cases before it
-pub refused_is : (v : Verdict) → (v ≡ Accepted → ⊥) → false ≡ is_accepted v
-unfolding is_accepted number
-refused_is Accepted other = absurd (other refl)
-refused_is Words other = refl
-refused_is Limit other = refl
-refused_is (Strings row) other = refl
-refused_is (Rows row) other = refl
+accepted_is (Ok tt) e = refl
+accepted_is (Err Words) e = false-true e
+accepted_is (Err Limit) e = false-true e
+accepted_is (Err (Strings row)) e = false-true e
+accepted_is (Err (Rows row)) e = false-true e

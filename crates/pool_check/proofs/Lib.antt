@@ -1,5 +1,5 @@
 pub mod Scan
 pub mod Decide
-pub mod Verdicts
 pub mod Acceptance
+pub mod Verdicts
 pub mod NumberLaws

@@ -1,56 +1,58 @@
 -- Laws of the verdict, in the order of the check.
-use Prim.Native.Nat.{ℕ, ◌≤◌, ◌<◌}
-use mathlib.Core.Bool.{Bool, true, false, ◌&&◌, cond}
+use Prim.Native.Nat.{ℕ}
+use mathlib.Core.Bool.{Bool, true, false}
 use mathlib.Core.List.{List}
-use mathlib.Core.Path.{◌≡◌, sym, ap, ap₂, ◌∙◌}
-use lib.Dec.{leb, ltb, eqb}
-use borrow.Author.Tests.{lt-ltb, le-ltb}
-use lib.ListN.{length}
-use Rattle.pool.specs.declared.tables.Tables.{Tables}
-use Rattle.pool_check.specs.declared.Verdict.{Verdict}
-use Rattle.pool_check.specs.declared.Verdict.TheVariants.{Words, Limit}
-use Rattle.pool.specs.Tables.{pool}
-use Rattle.byte_check.specs.Scan.{first_bad}
-use Rattle.pool_check.specs.Check.{in_table, words_ok, limits_ok, rows_verdict, verdict}
-use Rattle.pool.specs.Areas.{TablesOf}
+use mathlib.Core.Path.{◌≡◌, refl, sym, ap, ◌∙◌}
+use lib.Dec.{ltb}
+use Rattle.std.specs.Prelude.{None, Some, Result, Ok, Err}
+use Rattle.std.specs.Result.{IsErrAnd}
+use Rattle.pool_check.specs.declared.PoolError.{PoolError}
+use Rattle.pool_check.specs.declared.PoolError.TheVariants.{Words, Limit}
+use Rattle.pool.specs.Tables.{Pool, pool}
+use Rattle.byte_check.specs.Scan.{first_bad, found}
 use Rattle.pool_check.specs.Stages.{limits}
+use Rattle.pool_check.specs.Check.{in_table, words_ok, limits_ok, rows_verdict, verdict}
 
--- a table in the words of the code: r is the first bad row of the c rows
-module _ (ok : ℕ → Bool) (count : ℕ) (refused : ℕ → Verdict) (next : Verdict) (r c : ℕ) (first : r ≡ first_bad ok count 0) (e : c ≡ count) where
-  in_table_lem : (b : Bool) → ltb r c ≡ b → in_table ok count refused next ≡ cond b (refused r) next
-  in_table_lem b h =
-      ap₂ (λ (i n : ℕ). cond (ltb i n) (refused i) next) (sym first) (sym e) ∙ ap (λ (x : Bool). cond x (refused r) next) h
+-- a table in the words of the code, which knows the first bad row
+module _ (ok : ℕ → Bool) (count : ℕ) (refused : ℕ → PoolError) (next : Result Unit PoolError) where
+  pub refused_here : (r : ℕ) → Some r ≡ found ok count → Err (refused r) ≡ in_table ok count refused next
+  unfolding found
+  refused_here r e = by (ltb (first_bad ok count 0) count) refl
+    where
+      by : (b : Bool) → ltb (first_bad ok count 0) count ≡ b → Err (refused r) ≡ in_table ok count refused next
+      by true q = let f = rw q at e in let g : r ≡ first_bad ok count 0 = cc in rw (q, g)
+      by false q = let f = rw q at e in absurd (cc)
 
-  pub refused_here : r < c → refused r ≡ in_table ok count refused next
-  refused_here h = sym (in_table_lem true (lt-ltb r c h))
+  pub passed_on : None ≡ found ok count → next ≡ in_table ok count refused next
+  unfolding found
+  passed_on e = by (ltb (first_bad ok count 0) count) refl
+    where
+      by : (b : Bool) → ltb (first_bad ok count 0) count ≡ b → next ≡ in_table ok count refused next
+      by true q = let f = rw q at e in absurd (cc)
+      by false q = rw q
 
-  pub passed_on : c ≤ r → next ≡ in_table ok count refused next
-  passed_on h = sym (in_table_lem false (le-ltb r c h))
+-- the whole check of the pool p: w and l are what its two first tests find
+module _ (bs ws : List ℕ) (p : Pool) (e : p ≡ pool bs ws) (w : Bool) (ew : w ≡ words_ok p.words) where
+  head_read : (b : Bool) → w ≡ b → words_ok ws ≡ b
+  head_read b y = sym (ew ∙ ap (λ (q : Pool). words_ok q.words) e) ∙ y
 
--- the whole check: b and l are what its two first tests find
-module _ (bs ws : List ℕ) (t : Tables) (h : TablesOf ws ws t) (b : Bool) (eb : b ≡ leb 7 (length ws) && eqb t.total (length ws)) where
-  words_ok_lem : b ≡ words_ok ws
-  words_ok_lem = eb ∙ ap (λ (n : ℕ). leb 7 (length ws) && eqb n (length ws)) h.of_words.total
-
-  pub verdict_words : b ≡ false → Words ≡ verdict bs ws
+  pub verdict_words : w ≡ false → Err Words ≡ verdict bs ws
   unfolding verdict
-  verdict_words y = sym (ap (λ (x : Bool). cond x (cond (limits_ok bs ws) (rows_verdict (pool bs ws)) Limit) Words) (sym words_ok_lem ∙ y))
+  verdict_words y = rw (head_read false y)
 
-  module _ (y : b ≡ true) (l : Bool) (el : l ≡ limits t (length bs)) where
-    limits_ok_lem : l ≡ limits_ok bs ws
-    limits_ok_lem =
-        let n = h.of_names in
-        let w = h.of_words in
-        rw (← n.strings, ← n.names, ← w.levels, ← w.lists, ← w.entries, ← w.exprs, ← w.declars) el
+  module _ (y : w ≡ true) (l : Bool) (el : l ≡ limits p) where
+    limits_read : (b : Bool) → l ≡ b → limits_ok bs ws ≡ b
+    limits_read b z = sym (el ∙ ap limits e) ∙ z
 
-    past_words : (x : Bool) → l ≡ x → verdict bs ws ≡ cond x (rows_verdict (pool bs ws)) Limit
+    pub verdict_limit : l ≡ false → Err Limit ≡ verdict bs ws
     unfolding verdict
-    past_words x z =
-        ap (λ (x : Bool). cond x (cond (limits_ok bs ws) (rows_verdict (pool bs ws)) Limit) Words) (sym words_ok_lem ∙ y)
-        ∙ ap (λ (x : Bool). cond x (rows_verdict (pool bs ws)) Limit) (sym limits_ok_lem ∙ z)
+    verdict_limit z = rw (head_read true y, limits_read false z)
 
-    pub verdict_limit : l ≡ false → Limit ≡ verdict bs ws
-    verdict_limit z = sym (past_words false z)
+    pub verdict_rows : l ≡ true → rows_verdict p ≡ verdict bs ws
+    unfolding verdict
+    verdict_rows z = rw (head_read true y, limits_read true z) (ap rows_verdict e)
 
-    pub verdict_rows : l ≡ true → (v : Verdict) → v ≡ rows_verdict (pool bs ws) → v ≡ verdict bs ws
-    verdict_rows z v e = e ∙ sym (past_words true z)
+-- what `?` hands on
+pub err_is : {A : Type 0} (r : Result A PoolError) (e : PoolError) → IsErrAnd r (λ d. d ≡ e) → r ≡ Err e
+err_is (Ok u) e h = absurd h
+err_is (Err d) e h = ap Err h

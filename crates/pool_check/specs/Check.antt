@@ -1,33 +1,33 @@
 -- 01, From the input: "Check order as listed; tables in order, rows rising." Numbers 1 to 4.
-use Rattle.std.specs.Prelude.{ℕ, Bool, ◌&&◌, cond, List, ltb, leb, eqb, length}
-use Rattle.pool_check.specs.declared.Verdict.{Verdict}
-use Rattle.pool_check.specs.declared.Verdict.TheVariants.{Accepted, Words, Limit, Strings, Rows}
+use Rattle.std.specs.Prelude.{ℕ, Bool, ◌&&◌, cond, List, ltb, leb, eqb, length, Result, Ok, Err}
+use Rattle.pool_check.specs.declared.PoolError.{PoolError}
+use Rattle.pool_check.specs.declared.PoolError.TheVariants.{Words, Limit, Strings, Rows}
 use Rattle.pool.specs.Tables.{Pool, pool, S, N, L, K, Q, E, D, total}
 use Rattle.pool.specs.Rules.{string_ok, name_ok, level_ok, list_ok, list_entry_ok, expr_ok, declar_ok}
 use Rattle.byte_check.specs.Scan.{first_bad}
 
 -- 01's number of each case, 0 for none
-unfoldable pub number : Verdict → ℕ
-number Accepted = 0
-number Words = 1
-number Limit = 2
-number (Strings row) = 3
-number (Rows row) = 4
+unfoldable pub number : Result Unit PoolError → ℕ
+number (Ok _) = 0
+number (Err Words) = 1
+number (Err Limit) = 2
+number (Err (Strings row)) = 3
+number (Err (Rows row)) = 4
 
 -- "An accepted pool is one that check refuses under no number"
-unfoldable pub is_accepted : Verdict → Bool
+unfoldable pub is_accepted : Result Unit PoolError → Bool
 is_accepted v = eqb (number v) 0
 
 -- "for 3, 4 and 9 the first faulty row in its table (0 for counts) .. else 0"
-unfoldable pub place : Verdict → ℕ
-place Accepted = 0
-place Words = 0
-place Limit = 0
-place (Strings row) = row
-place (Rows row) = row
+unfoldable pub place : Result Unit PoolError → ℕ
+place (Ok _) = 0
+place (Err Words) = 0
+place (Err Limit) = 0
+place (Err (Strings row)) = row
+place (Err (Rows row)) = row
 
 -- the case that is refused under each number, at a place
-abbrev pub refusal : ℕ → ℕ → Verdict
+abbrev pub refusal : ℕ → ℕ → PoolError
 refusal n at = cond (eqb n 1) Words (cond (eqb n 2) Limit (cond (eqb n 3) (Strings at) (Rows at)))
 
 -- "1: words short of the head, or total wrong."
@@ -46,20 +46,20 @@ limits_ok bs ws =
     && (count_ok (K ws) && (count_ok (Q ws) && (count_ok (E ws) && (count_ok (D ws) && leb (length bs) 16777216))))))
 
 -- a table of so many rows: what is refused at its first bad row, or what comes after the table
-abbrev pub in_table : (ℕ → Bool) → ℕ → (ℕ → Verdict) → Verdict → Verdict
-in_table ok count refused next = let r : ℕ = first_bad ok count 0 in cond (ltb r count) (refused r) next
+abbrev pub in_table : (ℕ → Bool) → ℕ → (ℕ → PoolError) → Result Unit PoolError → Result Unit PoolError
+in_table ok count refused next = let r : ℕ = first_bad ok count 0 in cond (ltb r count) (Err (refused r)) next
 
 -- "3: a string pair. 4: any other row rule.": "tables in order, rows rising"
-unfoldable pub rows_verdict : Pool → Verdict
+unfoldable pub rows_verdict : Pool → Result Unit PoolError
 rows_verdict p =
     in_table (string_ok p) (S p.names) (refusal 3)
     (in_table (name_ok p) (N p.names) (refusal 4)
     (in_table (level_ok p) (L p.words) (refusal 4)
     (in_table (list_ok p) (K p.words) (refusal 4)
     (in_table (list_entry_ok p) (Q p.words) (refusal 4)
-    (in_table (expr_ok p) (E p.words) (refusal 4) (in_table (declar_ok p) (D p.words) (refusal 4) Accepted))))))
+    (in_table (expr_ok p) (E p.words) (refusal 4) (in_table (declar_ok p) (D p.words) (refusal 4) (Ok tt)))))))
 
-unfoldable pub verdict : List ℕ → List ℕ → Verdict
+unfoldable pub verdict : List ℕ → List ℕ → Result Unit PoolError
 verdict bs ws =
-    let rows : Verdict = rows_verdict (pool bs ws) in
-    cond (words_ok ws) (cond (limits_ok bs ws) rows (refusal 2 0)) (refusal 1 0)
+    let rows : Result Unit PoolError = rows_verdict (pool bs ws) in
+    cond (words_ok ws) (cond (limits_ok bs ws) rows (Err (refusal 2 0))) (Err (refusal 1 0))

@@ -1,29 +1,47 @@
--- The check in the code's stages: the limits over the counts once read, and the tables from the levels on.
-use Rattle.std.specs.Prelude.{ℕ, ◌≤◌, Bool, ◌&&◌, leb}
-use Rattle.pool.specs.declared.tables.Tables.{Tables}
-use Rattle.pool_check.specs.declared.Verdict.{Verdict}
-use Rattle.pool_check.specs.declared.Verdict.TheVariants.{Accepted}
-use Rattle.pool.specs.Tables.{Pool, L, K, Q, E, D}
+-- The check in the code's stages.
+use Rattle.std.specs.Prelude.{ℕ, ◌≤◌, Bool, ◌&&◌, List, ◌≡◌, leb, length, Result, Ok, Err}
+use Rattle.pool_check.specs.declared.PoolError.{PoolError}
+use Rattle.pool.specs.declared.checked.CheckedPool.{CheckedPool}
+use Rattle.pool.specs.Tables.{Pool, S, N, L, K, Q, E, D, total}
 use Rattle.pool.specs.Rules.{level_ok, list_ok, list_entry_ok, expr_ok, declar_ok}
 use Rattle.pool_check.specs.Check.{count_ok, in_table, refusal}
 
-abbrev pub limits : Tables → ℕ → Bool
-limits t size =
-    count_ok t.strings
-    && (count_ok t.names
-    && (count_ok t.levels
-    && (count_ok t.lists
-    && (count_ok t.entries && (count_ok t.exprs && (count_ok t.declars && leb size 16777216))))))
+-- what check answers, but for the pool that it hands out
+abbrev pub as_verdict : Result CheckedPool PoolError → Result Unit PoolError
+as_verdict (Ok p) = Ok tt
+as_verdict (Err e) = Err e
+
+-- the words are as many as the head says, and the counts and the byte area are within their limits
+pub record Limited (bs ws : List ℕ) : Type 0 where
+  pub head : 7 ≤ length ws
+  pub whole : total ws ≡ length ws
+  pub strings : S ws ≤ 65536
+  pub names : N ws ≤ 65536
+  pub levels : L ws ≤ 65536
+  pub lists : K ws ≤ 65536
+  pub entries : Q ws ≤ 65536
+  pub exprs : E ws ≤ 65536
+  pub declars : D ws ≤ 65536
+  pub bytes : length bs ≤ 16777216
+
+-- the limits, the words of the strings and names apart
+abbrev pub limits : Pool → Bool
+limits p =
+    count_ok (S p.names)
+    && (count_ok (N p.names)
+    && (count_ok (L p.words)
+    && (count_ok (K p.words)
+    && (count_ok (Q p.words) && (count_ok (E p.words) && (count_ok (D p.words) && leb (length p.bytes) 16777216))))))
 
 -- the tables that have a byte for each row in the check
-pub record Small (t : Tables) : Type 0 where
-  pub strings : t.strings ≤ 65536
-  pub names : t.names ≤ 65536
-  pub levels : t.levels ≤ 65536
+pub record Small (p : Pool) : Type 0 where
+  pub strings : S p.names ≤ 65536
+  pub names : N p.names ≤ 65536
+  pub levels : L p.words ≤ 65536
 
-unfoldable pub words_verdict : Pool → Verdict
+unfoldable pub words_verdict : Pool → Result Unit PoolError
 words_verdict p =
     in_table (level_ok p) (L p.words) (refusal 4)
     (in_table (list_ok p) (K p.words) (refusal 4)
     (in_table (list_entry_ok p) (Q p.words) (refusal 4)
-    (in_table (expr_ok p) (E p.words) (refusal 4) (in_table (declar_ok p) (D p.words) (refusal 4) Accepted))))
+    (in_table (expr_ok p) (E p.words) (refusal 4) (in_table (declar_ok p) (D p.words) (refusal 4) (Ok tt)))))

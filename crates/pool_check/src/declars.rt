@@ -1,58 +1,45 @@
 // The declarations: kind, name, list, type, value.
-ghost use Rattle.std.specs.Prelude.{◌≡◌, ℕ, cond, List, ltb, eqb};
+ghost use Rattle.std.specs.Prelude.{◌≡◌, cond, ltb, eqb};
 ghost use Rattle.pool.specs.Tables.{D};
 ghost use Rattle.pool.specs.Unfold.{has_value};
 ghost use Rattle.pool.specs.Rules.{declar_ok};
-ghost use Rattle.byte_check.specs.Scan.{first_bad};
-ghost use Rattle.pool.specs.Areas.{TablesOf, over};
+ghost use Rattle.pool.specs.Views.{read};
+ghost use Rattle.byte_check.specs.Scan.{found};
 
-use basics::bools::both;
-use pool::fields::{declar_kind, declar_list, declar_name, declar_type, declar_value};
+use pool::fields::{DECLAR_KIND, DECLAR_LIST, DECLAR_NAME, DECLAR_TYPE, DECLAR_VALUE};
 use pool::kinds::{DECLAR_INDUCTIVE, DECLAR_KINDS, DECLAR_THEOREM};
-use pool::tables::Tables;
+use pool::pool::Pool;
 
 // "value is used by 2 to 4 only"
 fn value_ok(exprs: usize, kind: usize, value: usize) -> bool
     ensures { result ≡ cond (has_value kind) (ltb value exprs) (eqb value 0) }
 {
-    if kind < DECLAR_THEOREM {
-        return value == 0;
+    if DECLAR_THEOREM <= kind && kind < DECLAR_INDUCTIVE {
+        value < exprs
+    } else {
+        value == 0
     }
-    if kind < DECLAR_INDUCTIVE {
-        return value < exprs;
-    }
-    value == 0
 }
 
-fn declar_ok(names: &[u32], words: &[u32], t: Tables, r: usize) -> bool
-    requires { TablesOf names.now words.now t }
-    ensures { (bs : List ℕ) → result ≡ declar_ok (over bs names.now words.now) r }
+#[tactic(auto, unfolding(pool::specs::Rules::declar_ok))]
+fn declar_ok(pool: &Pool<'_>, r: usize) -> bool
+    ensures { result ≡ declar_ok (read pool.now) r }
 {
-    let kind = declar_kind(words, t, r);
-    let name = declar_name(words, t, r);
-    let list = declar_list(words, t, r);
-    let ty = declar_type(words, t, r);
-    let value = declar_value(words, t, r);
-    let tail = both(ty < t.exprs, value_ok(t.exprs, kind, value));
-    both(
-        kind < DECLAR_KINDS,
-        both(name < t.names, both(list < t.lists, tail)),
-    )
+    let words = &pool.words;
+    let exprs = words.tables.exprs;
+    let kind = words.declar(r, DECLAR_KIND);
+    let name = words.declar(r, DECLAR_NAME);
+    let list = words.declar(r, DECLAR_LIST);
+    let ty = words.declar(r, DECLAR_TYPE);
+    let value = words.declar(r, DECLAR_VALUE);
+    let tail = ty < exprs && value_ok(exprs, kind, value);
+    let rest = name < pool.names.tables.names && (list < words.tables.lists && tail);
+    kind < DECLAR_KINDS && rest
 }
 
-// The first declaration row that breaks a rule, or their count.
-pub(crate) fn first_bad_declar(names: &[u32], words: &[u32], t: Tables) -> usize
-    requires { TablesOf names.now words.now t }
-    ensures { (bs : List ℕ) → result ≡ first_bad (declar_ok (over bs names.now words.now))
-        (D words.now) 0 }
+// The first declaration row that breaks a rule.
+pub(crate) fn first_bad_declar(pool: &Pool<'_>) -> Option<usize>
+    ensures { result ≡ found (declar_ok (read pool.now)) (D (read pool.now).words) }
 {
-    let count = t.declars;
-    let mut r: usize = 0;
-    while r < count {
-        if !declar_ok(names, words, t, r) {
-            return r;
-        }
-        r += 1;
-    }
-    r
+    (0..pool.words.tables.declars).find(|r| !declar_ok(pool, *r))
 }

@@ -6,20 +6,20 @@ mod levels;
 mod lists;
 mod names;
 
-ghost use Rattle.std.specs.Prelude.{◌≡◌, ◌≤◌, ◌&&◌, length};
-ghost use Rattle.pool_check.specs.Check.{is_accepted, rows_verdict, verdict};
-ghost use Rattle.pool.specs.Areas.{TablesOf, lent};
-ghost use Rattle.pool_check.specs.Stages.{Small, words_verdict, limits};
+ghost use Rattle.std.specs.Prelude.{◌≡◌, IfOk};
+ghost use Rattle.pool.specs.Tables.{pool};
+ghost use Rattle.pool.specs.Views.{read, lent};
+ghost use Rattle.pool_check.specs.Check.{words_ok, rows_verdict, verdict};
+ghost use Rattle.pool_check.specs.Stages.{as_verdict, limits, words_verdict, Small, Limited};
 
-use basics::bools::both;
 use byte_check::strings::first_bad_string;
 use expr_check::exprs::first_bad_expr;
-use pool::tables::{Tables, tables_of};
+use pool::checked::CheckedPool;
+use pool::pool::Pool;
 
-// What check finds: a pool is accepted, or refused under one of 01's numbers 1 to 4.
-#[derive(Clone, Copy)]
-pub enum Verdict {
-    Accepted,
+// Why a pool is refused: 01's numbers 1 to 4.
+#[derive(Clone, Copy, Debug, PartialEq, Eq)]
+pub enum PoolError {
     // 1: the words are short of the head, or their total is wrong.
     Words,
     // 2: a count or the byte area is over its limit.
@@ -30,85 +30,80 @@ pub enum Verdict {
     Rows { row: usize },
 }
 
-// "each at most 65,536", "at most 16,777,216 bytes"
-fn limits_ok(bytes: &[u8], t: Tables) -> bool
-    ensures { result ≡ limits t (length bytes.now) }
+// "words short of the head, or total wrong"
+fn words_ok(pool: &Pool<'_>) -> bool
+    ensures { result ≡ words_ok (read pool.now).words }
 {
-    let last = both(t.declars <= 65536, bytes.len() <= 16777216);
-    let rest = both(
-        t.lists <= 65536,
-        both(t.entries <= 65536, both(t.exprs <= 65536, last)),
-    );
-    both(
-        t.strings <= 65536,
-        both(t.names <= 65536, both(t.levels <= 65536, rest)),
-    )
+    let size = pool.words.words.len();
+    7 <= size && pool.words.tables.total == size
+}
+
+// "each at most 65,536", "at most 16,777,216 bytes"
+fn limits_ok(pool: &Pool<'_>) -> bool
+    ensures { result ≡ limits (read pool.now) }
+{
+    let names = &pool.names.tables;
+    let words = &pool.words.tables;
+    let last = words.declars <= 65536 && pool.bytes.len() <= 16777216;
+    let exprs = words.entries <= 65536 && (words.exprs <= 65536 && last);
+    let rest = words.levels <= 65536 && (words.lists <= 65536 && exprs);
+    names.strings <= 65536 && (names.names <= 65536 && rest)
 }
 
 // The tables from the levels on.
-fn check_words(bytes: &[u8], names: &[u32], words: &[u32], t: Tables) -> Verdict
-    requires { (TablesOf names.now words.now t) × (Small t) }
-    ensures { result ≡ words_verdict (lent bytes names words) }
+fn check_words(pool: &Pool<'_>) -> Result<(), PoolError>
+    requires { Small (read pool.now) }
+    ensures { result ≡ words_verdict (read pool.now) }
 {
-    let level = levels::first_bad_level(names, words, t);
-    if level < t.levels {
-        return Verdict::Rows { row: level };
+    if let Some(row) = levels::first_bad_level(pool) {
+        return Err(PoolError::Rows { row });
     }
-    let list = lists::first_bad_list(words, t);
-    if list < t.lists {
-        return Verdict::Rows { row: list };
+    if let Some(row) = lists::first_bad_list(pool) {
+        return Err(PoolError::Rows { row });
     }
-    let entry = lists::first_bad_entry(words, t);
-    if entry < t.entries {
-        return Verdict::Rows { row: entry };
+    if let Some(row) = lists::first_bad_entry(pool) {
+        return Err(PoolError::Rows { row });
     }
-    let expr = first_bad_expr(bytes, names, words, t);
-    if expr < t.exprs {
-        return Verdict::Rows { row: expr };
+    if let Some(row) = first_bad_expr(pool) {
+        return Err(PoolError::Rows { row });
     }
-    let declar = declars::first_bad_declar(names, words, t);
-    if declar < t.declars {
-        return Verdict::Rows { row: declar };
+    if let Some(row) = declars::first_bad_declar(pool) {
+        return Err(PoolError::Rows { row });
     }
-    Verdict::Accepted
+    Ok(())
 }
 
-// All tables in order, rows rising. Strings and names stand in `names`, the rest in `words`.
-fn check_rows(bytes: &[u8], names: &[u32], words: &[u32], t: Tables) -> Verdict
-    requires { (TablesOf names.now words.now t) × (Small t) }
-    ensures { result ≡ rows_verdict (lent bytes names words) }
+// All tables in order, rows rising.
+fn check_rows(pool: &Pool<'_>) -> Result<(), PoolError>
+    requires { Small (read pool.now) }
+    ensures { result ≡ rows_verdict (read pool.now) }
 {
-    let string = first_bad_string(bytes, names, t);
-    if string < t.strings {
-        return Verdict::Strings { row: string };
+    if let Some(row) = first_bad_string(pool) {
+        return Err(PoolError::Strings { row });
     }
-    let name = names::first_bad_name(names, t);
-    if name < t.names {
-        return Verdict::Rows { row: name };
+    if let Some(row) = names::first_bad_name(pool) {
+        return Err(PoolError::Rows { row });
     }
-    check_words(bytes, names, words, t)
+    check_words(pool)
 }
 
-// Whether a pool is accepted, and else the first of the numbers 1 to 4 that refuses it, with its place.
-pub fn check(bytes: &[u8], words: &[u32]) -> Verdict
-    ensures { result ≡ verdict bytes.now words.now }
+// The pool, where it is accepted, and else the first of the numbers 1 to 4 that refuses it, with its place.
+pub fn check<'a>(bytes: &'a [u8], words: &'a [u32]) -> Result<CheckedPool<'a>, PoolError>
+    ensures verdict { as_verdict result ≡ verdict bytes.now words.now }
+    ensures same { IfOk result (λ p. lent p ≡ pool bytes.now words.now) }
+    ensures few { IfOk result (λ p. Limited bytes.now words.now) }
 {
-    let t = tables_of(words, words);
-    if !both(7 <= words.len(), t.total == words.len()) {
-        return Verdict::Words;
+    let pool = Pool::of(bytes, words);
+    if !words_ok(&pool) {
+        return Err(PoolError::Words);
     }
-    if !limits_ok(bytes, t) {
-        return Verdict::Limit;
+    if !limits_ok(&pool) {
+        return Err(PoolError::Limit);
     }
-    check_rows(bytes, words, words, t)
-}
-
-// Whether check found nothing.
-pub fn is_accepted(v: Verdict) -> bool
-    ensures { result ≡ is_accepted v }
-{
-    match v {
-        Verdict::Accepted => true,
-        _ => false,
-    }
+    check_rows(&pool)?;
+    Ok(CheckedPool {
+        bytes: pool.bytes,
+        names: pool.names,
+        words: pool.words,
+    })
 }

@@ -1,70 +1,47 @@
 // The lists: pairs into the list words, each of which is a level row.
-ghost use Rattle.std.specs.Prelude.{◌≡◌, ℕ, List};
+ghost use Rattle.std.specs.Prelude.{◌≡◌};
 ghost use Rattle.pool.specs.Tables.{K, Q, list_word};
 ghost use Rattle.pool.specs.Rules.{rising, list_ok, list_entry_ok};
-ghost use Rattle.byte_check.specs.Scan.{first_bad};
-ghost use Rattle.pool.specs.Areas.{WordsOf, over};
+ghost use Rattle.pool.specs.Views.{read};
+ghost use Rattle.byte_check.specs.Scan.{found};
 
-use basics::bools::both;
-use pool::fields::{list_length, list_offset};
-use pool::tables::{Tables, list_entry};
+use pool::fields::{LIST_LENGTH, LIST_OFFSET};
+use pool::pool::Pool;
+use pool::words::Words;
 
 // Whether the offset is at least the one before it.
-fn list_rises(words: &[u32], t: Tables, r: usize) -> bool
-    requires { WordsOf words.now t }
-    ensures { result ≡ rising (λ i. list_word words.now i 0) r }
+fn list_rises(words: &Words<'_>, r: usize) -> bool
+    ensures { result ≡ rising (λ i. list_word words.now.words.now i 0) r }
 {
-    if r == 0 {
-        return true;
-    }
-    list_offset(words, t, r - 1) <= list_offset(words, t, r)
+    r == 0 || words.list(r - 1, LIST_OFFSET) <= words.list(r, LIST_OFFSET)
 }
 
-fn list_ok(words: &[u32], t: Tables, r: usize) -> bool
-    requires { WordsOf words.now t }
-    ensures { (bs ns : List ℕ) → result ≡ list_ok (over bs ns words.now) r }
+#[tactic(auto, unfolding(pool::specs::Rules::list_ok))]
+fn list_ok(pool: &Pool<'_>, r: usize) -> bool
+    ensures { result ≡ list_ok (read pool.now) r }
 {
-    let offset = list_offset(words, t, r);
-    let size = list_length(words, t, r);
-    both(offset + size <= t.entries, list_rises(words, t, r))
+    let words = &pool.words;
+    words.list(r, LIST_OFFSET) + words.list(r, LIST_LENGTH) <= words.tables.entries
+        && list_rises(words, r)
 }
 
-// The first list row that breaks a rule, or their count.
-pub(crate) fn first_bad_list(words: &[u32], t: Tables) -> usize
-    requires { WordsOf words.now t }
-    ensures { (bs ns : List ℕ) → result ≡ first_bad (list_ok (over bs ns words.now)) (K words.now) 0 }
+// The first list row that breaks a rule.
+pub(crate) fn first_bad_list(pool: &Pool<'_>) -> Option<usize>
+    ensures { result ≡ found (list_ok (read pool.now)) (K (read pool.now).words) }
 {
-    let count = t.lists;
-    let mut r: usize = 0;
-    while r < count {
-        if !list_ok(words, t, r) {
-            return r;
-        }
-        r += 1;
-    }
-    r
+    (0..pool.words.tables.lists).find(|r| !list_ok(pool, *r))
 }
 
-fn list_entry_ok(words: &[u32], t: Tables, i: usize) -> bool
-    requires { WordsOf words.now t }
-    ensures { (bs ns : List ℕ) → result ≡ list_entry_ok (over bs ns words.now) i }
+#[tactic(auto, unfolding(pool::specs::Rules::list_entry_ok))]
+fn list_entry_ok(pool: &Pool<'_>, i: usize) -> bool
+    ensures { result ≡ list_entry_ok (read pool.now) i }
 {
-    list_entry(words, t, i) < t.levels
+    pool.words.entry(i) < pool.words.tables.levels
 }
 
-// The first list word that is no level row, or their count.
-pub(crate) fn first_bad_entry(words: &[u32], t: Tables) -> usize
-    requires { WordsOf words.now t }
-    ensures { (bs ns : List ℕ) → result ≡ first_bad (list_entry_ok (over bs ns words.now))
-        (Q words.now) 0 }
+// The first list word that is no level row.
+pub(crate) fn first_bad_entry(pool: &Pool<'_>) -> Option<usize>
+    ensures { result ≡ found (list_entry_ok (read pool.now)) (Q (read pool.now).words) }
 {
-    let count = t.entries;
-    let mut r: usize = 0;
-    while r < count {
-        if !list_entry_ok(words, t, r) {
-            return r;
-        }
-        r += 1;
-    }
-    r
+    (0..pool.words.tables.entries).find(|i| !list_entry_ok(pool, *i))
 }

@@ -1,36 +1,21 @@
 // Every code point through both letterlike classes.
-use crate::show;
 use std::io;
 use utf8::letterlike::{is_letterlike_rest, is_letterlike_start};
 
 // 2 for a start and 1 for a rest.
-fn class(c: u32) -> u64 {
-    if is_letterlike_start(c) {
-        if is_letterlike_rest(c) {
-            return 3;
-        }
-        return 2;
-    }
-    if is_letterlike_rest(c) {
-        return 1;
-    }
-    0
+fn class(c: u32) -> u8 {
+    2 * u8::from(is_letterlike_start(c)) + u8::from(is_letterlike_rest(c))
 }
 
-// Shows a code point's class where it is not that of the one before.
-fn change(rt: &impl Print, c: u32, before: u64) -> io::Result<u64> {
-    let k = class(c);
-    if k != before {
-        rt.write_all(b"letterlike class from")?;
-        show(rt, [c as u64, k])?;
-    }
-    Ok(k)
-}
-
+// Shows each code point whose class is not that of the one before.
 pub(crate) fn changes(rt: &impl Print) -> io::Result<()> {
-    let mut before: u64 = 0;
+    let mut before = 0;
     for c in 0..0x110000u32 {
-        before = change(rt, c, before)?;
+        let class = class(c);
+        if class != before {
+            println!(rt; "letterlike class from: {c} {class}")?;
+        }
+        before = class;
     }
     Ok(())
 }

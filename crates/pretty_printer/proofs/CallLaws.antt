@@ -4,12 +4,14 @@ use native.Mathlib.Omega.{arith}
 use mathlib.Core.Bool.{Bool, true, false, cond}
 use mathlib.Core.List.{List, ◌∷◌}
 use mathlib.Core.Path.{◌≡◌, refl, sym, ap, ap₂, ◌∙◌}
-use lib.Dec.{ltb, leb, eqb}
+use lib.Dec.{ltb, leb}
 use lib.ListN.{length}
 use borrow.Author.Tests.{le-ltb, leb-true}
 use Rattle.document.specs.Walk.{Marked, textᵐ}
 use Rattle.document.specs.Sink.State.{state}
-use Rattle.document.specs.Sink.{State, sink_of, stopped_at, refuse, put_text, put_join, put_break, put_nest, put_group, put_names, emit}
+use Rattle.std.specs.Prelude.{is_none}
+use Rattle.document.specs.declared.written.Stop.TheVariants.{Names}
+use Rattle.document.specs.Sink.{State, written_of, stopped_at, refuse, put_text, put_join, put_break, put_nest, put_group, put_names, emit}
 use Rattle.pool.specs.Tables.{Pool}
 use Rattle.pool.specs.Tree.{Name, Expr, var, sort, const, app, pi, lam, letᵉ, proj, nat, str, shape, occurs, lift}
 use Rattle.pool.proofs.TreeLaws.{label}
@@ -57,9 +59,6 @@ pub under-zero : (q : Parenable) → under 0 q ≡ q.doc
 unfolding under
 under-zero q = rw (le-ltb q.inner 0 (omega arith))
 
-no_leaf : {A : Type 0} → false ≡ true → A
-no_leaf e = absurd (let z : ◌≡◌ {A = ℕ} 0 1 = cc in omega arith)
-
 -- the nest and the group of an application, inside its parentheses
 wrapped : (opts : PpOptions) (d : Marked) (v : Bool) (st : State) → close_if v (emit (NG opts.indent d) (open_if v st)) ≡ close_if v (put_nest opts.indent (put_group (emit d (open_if v st))))
 unfolding emit
@@ -94,14 +93,14 @@ module _ (opts : PpOptions) (p : Pool) (k : Stack) (h : ℕ) where
   pub leaf_prints : (outer : ℕ) (e : Expr) (st : State) → outer ≤ 1024 → leaf_kind (label (shape e)) ≡ true →
       emit (leaf_doc e) st ≡ emit (under outer (in_scope opts p k h e)) st
   unfolding in_scope rename leaf_doc leaf_kind label shape
-  leaf_prints outer (var i) st l e = no_leaf e
+  leaf_prints outer (var i) st l e = cc
   leaf_prints outer (sort x) st l e = rw (prints_sort opts (names_of p k) x, under_top outer (with_inner 1024 (sort_doc x)) l refl)
   leaf_prints outer (const n ls) st l e = rw (prints_const opts (names_of p k) n ls, under_top outer (with_inner 1024 (quoted "@" ⊹ name_doc n)) l refl)
-  leaf_prints outer (app f a) st l e = no_leaf e
-  leaf_prints outer (pi q n s t b) st l e = no_leaf e
-  leaf_prints outer (lam q n s t b) st l e = no_leaf e
-  leaf_prints outer (letᵉ q n t v b d) st l e = no_leaf e
-  leaf_prints outer (proj n i x) st l e = no_leaf e
+  leaf_prints outer (app f a) st l e = cc
+  leaf_prints outer (pi q n s t b) st l e = cc
+  leaf_prints outer (lam q n s t b) st l e = cc
+  leaf_prints outer (letᵉ q n t v b d) st l e = cc
+  leaf_prints outer (proj n i x) st l e = cc
   leaf_prints outer (nat s) st l e = rw (prints_nat opts (names_of p k) s, under_top outer (with_inner 1024 (textᵐ s)) l refl)
   leaf_prints outer (str s) st l e = rw (prints_str opts (names_of p k) s, under_top outer (with_inner 1024 (quoted "\"" ⊹ textᵐ s ⊹ quoted "\"")) l refl)
 
@@ -187,7 +186,7 @@ let_body_lem opts p k h name place e l st w room b z =
     rw (z, ρ, ns)
 
 -- a stopped sink stays as it is
-pub close_stopped : (v : Bool) (st : State) → eqb (sink_of st).stop 0 ≡ false → close_if v st ≡ st
+pub close_stopped : (v : Bool) (st : State) → is_none (written_of st).stop ≡ false → close_if v st ≡ st
 unfolding close_if put_text emit
 close_stopped true st e =
     ap (λ (x : State). put_join (put_text (bytes ")") x)) (stays_join st e)
@@ -197,16 +196,16 @@ close_stopped false st e = refl
 
 -- ---- chains
 
-refuse_stops : (place : ℕ) (st : State) → eqb (sink_of (refuse place st)).stop 0 ≡ true → ⊥
+refuse_stops : (place : ℕ) (st : State) → is_none (written_of (refuse place st)).stop ≡ true → ⊥
 unfolding refuse
-refuse_stops place (state rows text x) = by (eqb x.stop 0) refl
+refuse_stops place (state rows text x) = by (is_none x.stop) refl
   where
-    by : (v : Bool) → eqb x.stop 0 ≡ v → eqb (sink_of (cond v (state rows text (stopped_at 7 place x)) (state rows text x))).stop 0 ≡ true → ⊥
-    by true z e = no_leaf e
-    by false z e = no_leaf (sym z ∙ e)
+    by : (v : Bool) → is_none x.stop ≡ v → is_none (written_of (cond v (state rows text (stopped_at (Names place) x)) (state rows text x))).stop ≡ true → ⊥
+    by true z e = cc
+    by false z e = cc
 
 -- names that come into force on a sink that has not stopped after it: they fit
-pub names_fit : (place count : ℕ) (st : State) → eqb (sink_of (put_names place count st)).stop 0 ≡ true → count ≤ 1024
+pub names_fit : (place count : ℕ) (st : State) → is_none (written_of (put_names place count st)).stop ≡ true → count ≤ 1024
 unfolding put_names
 names_fit place count st e = leb-true count 1024 (by (leb count 1024) refl)
   where
@@ -317,7 +316,7 @@ module _ (opts : PpOptions) (p : Pool) (k : Stack) (h : ℕ) (i : Bool) (q : ℕ
 -- a chain whose names do not fit, or that starts on a sink that has stopped
 pub chain_stops : (opts : PpOptions) (p : Pool) (k : Stack) (h : ℕ) (i : Bool) (q : ℕ) (a : Name) (s : ℕ) (t b e₀ : Expr) (outer level count : ℕ) (v : Bool) (st : State) →
     e₀ ≡ mk_binder i q a s t b → v ≡ is_arrow (first_binder e₀) → level ≡ level_of v → count ≡ k.count + chain_length e₀ →
-    eqb (sink_of (put_names q count (open_if (ltb level outer) st))).stop 0 ≡ false →
+    is_none (written_of (put_names q count (open_if (ltb level outer) st))).stop ≡ false →
     put_names q count (open_if (ltb level outer) st) ≡ emit (under outer (in_scope opts p k h e₀)) st
 chain_stops opts p k h i q a s t b e₀ outer level count v st made arrow levels counts stopped =
     let z : v ≡ is_arrow (first_binder (mk_binder i q a s t b)) = rw made at arrow in

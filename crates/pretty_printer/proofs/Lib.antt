@@ -5,4 +5,10 @@ pub mod TelescopeLaws
 pub mod PartLaws
 pub mod EmitLaws
 pub mod CallLaws
+pub mod RowWords
 pub mod RowLaws
+pub mod SinkLaws
+pub mod SpineRows
+pub mod ChainRows
+pub mod GroupRows
+pub mod Printing

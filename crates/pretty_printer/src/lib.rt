@@ -1,4 +1,4 @@
 // Expressions to documents.
-#![tactic(auto)]
+#![tactic(auto, using(crate::proofs::Printing::printing))]
 
 pub mod exprs;

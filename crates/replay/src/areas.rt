@@ -1,73 +1,89 @@
-// What the areas must hold after a call: they are filled with a guard before it. A print and a refusal 22 leave the document, then zeros,
-// and the listing, or as much of it as fits, and then the guard; 20 and 21 leave rows and text zero; 5 and 6 change nothing.
-use crate::record::{past_bytes, row_bytes, row_words};
-use basics::bools::both;
-use records::{bytes, fill, fill_words, holds, holds_words};
+// The areas that are lent to a call, and what they must hold after it: they are filled with a guard before it. A print and a refusal 22
+// leave the document, then zeros, and the listing, or as much of it as fits, and then the guard; 20 and 21 leave rows and text zero; 5
+// and 6 change nothing.
+use crate::record::{AMPLE, Call, Document, Head};
+use records::holds;
 
-const GUARD: u8 = 165;
+const GUARD: u8 = 0xa5;
 
-const GUARD_WORD: u32 = 2779096485;
+const GUARD_WORD: u32 = 0xa5a5a5a5;
 
-pub fn guard(rows: &mut [u32], text: &mut [u8], listing: &mut [u8]) {
-    fill_words(rows, GUARD_WORD);
-    fill(text, GUARD);
-    fill(listing, GUARD);
+// As much as any call needs.
+#[derive(Drop)]
+pub struct Areas {
+    pub rows: [u32; AMPLE.rows],
+    pub text: [u8; AMPLE.text],
+    pub listing: [u8; AMPLE.listing],
 }
 
-// n for a kind of call that leaves a document, else 0.
-fn left(kind: usize, n: usize) -> usize {
-    match kind {
-        0 => n,
-        1 => n,
-        4 => n,
-        _ => 0,
+impl Areas {
+    pub fn new() -> Areas {
+        Areas {
+            rows: [0; AMPLE.rows],
+            text: [0; AMPLE.text],
+            listing: [0; AMPLE.listing],
+        }
     }
 }
 
-// n where the record has the document, else 0; and the contrary.
-fn recorded(h: [u32; 16], n: usize) -> usize {
-    if h[12] == 1 { n } else { 0 }
+// What a call is lent.
+#[derive(Drop)]
+pub struct Lent<'a> {
+    pub rows: &'a mut [u32],
+    pub text: &'a mut [u8],
+    pub listing: &'a mut [u8],
 }
 
-fn unrecorded(h: [u32; 16], n: usize) -> usize {
-    if h[12] == 1 { 0 } else { n }
-}
+impl Lent<'_> {
+    pub fn guard(&mut self) {
+        self.rows.fill(GUARD_WORD);
+        self.text.fill(GUARD);
+        self.listing.fill(GUARD);
+    }
 
-fn rows_right(data: &[u8], h: [u32; 16], kind: usize, rows: &[u32]) -> bool {
-    let wanted = bytes(
-        data,
-        past_bytes(h[8]),
-        0,
-        recorded(h, left(kind, row_bytes(h[6]))),
-    );
-    let rest = if kind < 5 { 0 } else { GUARD_WORD };
-    holds_words(
-        rows,
-        wanted,
-        unrecorded(h, left(kind, row_words(h[6]))),
-        rest,
-    )
-}
+    // A document, and zeros after it.
+    fn hold(&self, document: Document<'_>) -> bool {
+        let words = document
+            .rows
+            .as_chunks::<4>()
+            .0
+            .iter()
+            .map(|word| u32::from_le_bytes(*word));
+        holds(self.rows, words, 0) && holds(self.text, document.text.iter().copied(), 0)
+    }
 
-fn text_right(data: &[u8], h: [u32; 16], kind: usize, text: &[u8]) -> bool {
-    let n = left(kind, h[7] as usize);
-    let wanted = bytes(data, past_bytes(h[8]), row_words(h[6]), recorded(h, n));
-    let rest = if kind < 5 { 0 } else { GUARD };
-    holds(text, wanted, unrecorded(h, n), rest)
-}
+    // Zeros from word n of the rows and byte m of the text on.
+    fn are_zero_from(&self, n: usize, m: usize) -> bool {
+        self.rows.iter().skip(n).all(|word| *word == 0)
+            && self.text.iter().skip(m).all(|byte| *byte == 0)
+    }
 
-pub fn right(
-    data: &[u8],
-    h: [u32; 16],
-    kind: usize,
-    rows: &[u32],
-    text: &[u8],
-    listing: &[u8],
-) -> bool {
-    let listed = bytes(data, 0, 16, left(kind, h[8] as usize));
-    let document = both(
-        rows_right(data, h, kind, rows),
-        text_right(data, h, kind, text),
-    );
-    both(document, holds(listing, listed, 0, GUARD))
+    fn are_untouched(&self) -> bool {
+        self.rows.iter().all(|word| *word == GUARD_WORD)
+            && self.text.iter().all(|byte| *byte == GUARD)
+    }
+
+    // Where the record does not have the document, anything may stand in its place.
+    fn rows_and_text_are_right(&self, data: &[u8], head: &Head, call: Call) -> bool {
+        match call {
+            Call::Ample | Call::Exact | Call::ListingShort => match head.document(data) {
+                Some(document) => self.hold(document),
+                None => self.are_zero_from(head.row_words(), head.text as usize),
+            },
+            Call::TextShort | Call::RowsShort => self.are_zero_from(0, 0),
+            _ => self.are_untouched(),
+        }
+    }
+
+    fn listing_is_right(&self, data: &[u8], head: &Head, call: Call) -> bool {
+        let listed = match call {
+            Call::Ample | Call::Exact | Call::ListingShort => head.listing(data),
+            _ => b"",
+        };
+        holds(self.listing, listed.iter().copied(), GUARD)
+    }
+
+    pub fn are_right(&self, data: &[u8], head: &Head, call: Call) -> bool {
+        self.rows_and_text_are_right(data, head, call) && self.listing_is_right(data, head, call)
+    }
 }

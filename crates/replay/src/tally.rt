@@ -1,87 +1,68 @@
-// How many calls there were of each kind, and how many were as wanted: two counters a line.
-use records::bytes;
+// How many calls there were of each kind, and how many were as wanted.
+use crate::record::Call;
 use std::io;
 
-// The lines that are no kind of call.
-const DOCUMENTS: usize = 9;
+// The lines of the calls, in the order of the enum: ample and exact areas, else number and cause of a refusal.
+const NAMES: [&str; 9] = [
+    "ample", "exact", "21 text", "20 rows", "22 list", "5 expr", "5 declar", "6 indent", "6 width",
+];
 
-pub const POOLS: usize = 10;
-
-fn next(n: u32) -> u32 {
-    if n < 1000000 { n + 1 } else { n }
+#[derive(Clone, Copy, Default)]
+struct Count {
+    all: u32,
+    right: u32,
 }
 
-fn wide(n: u32) -> u64 {
-    n as u64
-}
+impl Count {
+    fn add(&mut self, right: bool) {
+        self.all = self.all.saturating_add(1);
+        self.right = self.right.saturating_add(u32::from(right));
+    }
 
-fn count(counts: &mut [u32; 22], i: usize) {
-    if i < 22 {
-        counts[i] = next(counts[i]);
+    fn show(&self, rt: &impl Print, name: &str) -> io::Result<()> {
+        let right = self.right;
+        let all = self.all;
+        println!(rt; "{name:8} {right} of {all}")
     }
 }
 
-pub fn add(counts: &mut [u32; 22], line: usize, right: bool) {
-    if line < 11 {
-        count(counts, line * 2);
-        if right {
-            count(counts, line * 2 + 1);
+#[derive(Default, Drop)]
+pub struct Tally {
+    calls: [Count; 9],
+    documents: Count,
+    pools: Count,
+}
+
+impl Tally {
+    pub fn add_pool(&mut self, right: bool) {
+        self.pools.add(right);
+    }
+
+    // Counts a call; one in areas of the exact length also as a document, where the record has it.
+    pub fn add_call(
+        &mut self,
+        rt: &impl Print,
+        call: Call,
+        right: bool,
+        has_document: bool,
+    ) -> io::Result<()> {
+        let kind = call as usize;
+        self.calls[kind].add(right);
+        if has_document && matches!(call, Call::Exact) {
+            self.documents.add(right);
         }
+        if !right {
+            let print = self.calls[0].all;
+            println!(rt; "not as recorded: print {print}, kind of call {kind}")?;
+        }
+        Ok(())
     }
-}
 
-// A line's name has eight letters here: ample and exact areas, number and cause of a refusal, and what is no kind of call.
-fn write_name(rt: &impl Print, line: usize) -> io::Result<()> {
-    if line < 11 {
-        let names =
-            b"ample   exact   21 text 20 rows 22 list 5 expr  5 declar6 indent6 width documentpools   ";
-        rt.write_all(bytes(names, line * 2, 0, 8))?;
+    pub fn show(&self, rt: &impl Print) -> io::Result<()> {
+        for (count, name) in self.calls.iter().zip(NAMES.iter()) {
+            count.show(rt, *name)?;
+        }
+        self.documents.show(rt, "document")?;
+        self.pools.show(rt, "pools")
     }
-    Ok(())
-}
-
-fn show(rt: &impl Print, counts: &[u32; 22], line: usize) -> io::Result<()> {
-    if line < 11 {
-        write_name(rt, line)?;
-        let right = wide(counts[line * 2 + 1]);
-        let all = wide(counts[line * 2]);
-        println!(rt; " {right} of {all}")?;
-    }
-    Ok(())
-}
-
-fn different(rt: &impl Print, counts: &[u32; 22], kind: usize) -> io::Result<()> {
-    let print = wide(counts[0]);
-    println!(rt; "not as recorded: print {print}, kind of call {kind}")
-}
-
-fn add_document(counts: &mut [u32; 22], kind: usize, right: bool) {
-    if kind == 1 {
-        add(counts, DOCUMENTS, right);
-    }
-}
-
-// Counts a call; one in areas of the exact length also as a document, where the record has it.
-pub fn counted(
-    rt: &impl Print,
-    counts: &mut [u32; 22],
-    kind: usize,
-    right: bool,
-    document: bool,
-) -> io::Result<()> {
-    add(counts, kind, right);
-    if document {
-        add_document(counts, kind, right);
-    }
-    if !right {
-        different(rt, counts, kind)?;
-    }
-    Ok(())
-}
-
-pub fn report(rt: &impl Print, counts: &[u32; 22]) -> io::Result<()> {
-    for line in 0..11usize {
-        show(rt, counts, line)?;
-    }
-    Ok(())
 }

@@ -1,11 +1,24 @@
 -- A run as the contract of a function speaks of it: what the references of its call were, and are.
 use Rattle.std.specs.Prelude.{ℕ, true, ◌≡◌}
 use Rattle.basics.specs.Lent.{Area, Shared}
-use Rattle.lister.specs.declared.Answer.{Answer}
+use Rattle.declarations.specs.declared.listing.Root.{Root}
+use Rattle.declarations.specs.declared.listing.Root.TheVariants.{Expr, Declar}
+use Rattle.lister.specs.Answers.{Answer}
 use Rattle.lister.specs.Frames.{given, lent_areas, left_areas}
 use Rattle.lister.specs.Prints.{sizes_ok}
-use Rattle.third_property.specs.ThirdProperty.{Print, Run, Rooted, OneRun}
+use Rattle.third_property.specs.ThirdProperty.{Print, expression, declaration, Run, Rooted, OneRun}
+use Rattle.runs.specs.declared.kind.Kind.{Kind}
+use Rattle.runs.specs.declared.kind.Kind.TheVariants.{Expression, Declaration}
 use Rattle.third_property.specs.Success.{Decided}
+
+-- the print of a kind, and the root at a row
+abbrev pub print_of : Kind → Print
+print_of Expression = expression
+print_of Declaration = declaration
+
+abbrev pub root_of : Kind → ℕ → Root
+root_of Expression row = Expr row
+root_of Declaration row = Declar row
 
 abbrev pub run_with : (k : Print) → Shared → Shared → ℕ → ℕ → ℕ → Area → Area → Area → Answer → Run k
 run_with k bytes words root indent width rows text listing v =

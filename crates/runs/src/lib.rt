@@ -5,22 +5,27 @@
 ghost use Rattle.std.specs.Prelude.{◌≡◌};
 ghost use Rattle.basics.specs.Lent.{was, left};
 ghost use Rattle.layout_pending.specs.Agreement.{Agree};
-ghost use Rattle.third_property.specs.ThirdProperty.{Print, expression, declaration, TwoRuns};
-ghost use Rattle.runs.specs.Calls.{run_with, OneCall};
+ghost use Rattle.third_property.specs.ThirdProperty.{TwoRuns};
+ghost use Rattle.runs.specs.Calls.{print_of, run_with, OneCall};
 
-use layout::Laid;
-use layout_pending::LaidPending;
-use lister::{Answer, print_declar, print_expr};
+use document::check::Document;
+use kind::Kind;
+use layout::{Counts, LayoutError};
+use layout_pending::PendingError;
+use lister::{PrintError, print};
+
+pub mod kind;
 
 // What two calls answer.
-#[derive(Clone, Copy)]
+#[derive(Clone, Copy, Debug, PartialEq, Eq)]
 pub struct Answers {
-    pub first: Answer,
-    pub second: Answer,
+    pub first: Result<Counts, PrintError>,
+    pub second: Result<Counts, PrintError>,
 }
 
-// One call of print expression: its clauses, and when it succeeds.
-pub fn expr_once(
+// One call of a print: its clauses, and when it succeeds.
+pub fn once(
+    kind: Kind,
     bytes: &[u8],
     words: &[u32],
     root: usize,
@@ -29,59 +34,16 @@ pub fn expr_once(
     rows: &mut [u32],
     text: &mut [u8],
     listing: &mut [u8],
-) -> Answer
-    ensures { OneCall (run_with expression bytes words root indent width rows text listing result) }
+) -> Result<Counts, PrintError>
+    ensures { OneCall (run_with (print_of kind) bytes words root indent width rows text listing result) }
 {
-    print_expr(bytes, words, root, indent, width, rows, text, listing)
+    let root = kind.root(root);
+    print(bytes, words, root, indent, width, rows, text, listing)
 }
 
-// Two calls of print expression.
-pub fn expr_twice(
-    bytes: &[u8],
-    words: &[u32],
-    root: usize,
-    indent: usize,
-    width: usize,
-    rows: &mut [u32],
-    text: &mut [u8],
-    listing: &mut [u8],
-    bytes2: &[u8],
-    words2: &[u32],
-    root2: usize,
-    indent2: usize,
-    width2: usize,
-    rows2: &mut [u32],
-    text2: &mut [u8],
-    listing2: &mut [u8],
-) -> Answers
-    ensures { TwoRuns (run_with expression bytes words root indent width rows text listing result.first)
-        (run_with expression bytes2 words2 root2 indent2 width2 rows2 text2 listing2 result.second) }
-{
-    let first = print_expr(bytes, words, root, indent, width, rows, text, listing);
-    let second = print_expr(
-        bytes2, words2, root2, indent2, width2, rows2, text2, listing2,
-    );
-    Answers { first, second }
-}
-
-// One call of print declaration: its clauses, and when it succeeds.
-pub fn declar_once(
-    bytes: &[u8],
-    words: &[u32],
-    root: usize,
-    indent: usize,
-    width: usize,
-    rows: &mut [u32],
-    text: &mut [u8],
-    listing: &mut [u8],
-) -> Answer
-    ensures { OneCall (run_with declaration bytes words root indent width rows text listing result) }
-{
-    print_declar(bytes, words, root, indent, width, rows, text, listing)
-}
-
-// Two calls of print declaration.
-pub fn declar_twice(
+// Two calls of a print.
+pub fn twice(
+    kind: Kind,
     bytes: &[u8],
     words: &[u32],
     root: usize,
@@ -99,38 +61,35 @@ pub fn declar_twice(
     text2: &mut [u8],
     listing2: &mut [u8],
 ) -> Answers
-    ensures { TwoRuns (run_with declaration bytes words root indent width rows text listing result.first)
-        (run_with declaration bytes2 words2 root2 indent2 width2 rows2 text2 listing2 result.second) }
+    ensures { TwoRuns (run_with (print_of kind) bytes words root indent width rows text listing result.first)
+        (run_with (print_of kind) bytes2 words2 root2 indent2 width2 rows2 text2 listing2 result.second) }
 {
-    let first = print_declar(bytes, words, root, indent, width, rows, text, listing);
-    let second = print_declar(
-        bytes2, words2, root2, indent2, width2, rows2, text2, listing2,
-    );
+    let at = kind.root(root);
+    let first = print(bytes, words, at, indent, width, rows, text, listing);
+    let at2 = kind.root(root2);
+    let second = print(bytes2, words2, at2, indent2, width2, rows2, text2, listing2);
     Answers { first, second }
 }
 
 // What the two layouts answer.
-#[derive(Clone, Copy)]
+#[derive(Clone, Copy, Debug, PartialEq, Eq)]
 pub struct Layouts {
-    pub first: Laid,
-    pub second: LaidPending,
+    pub first: Result<Counts, LayoutError>,
+    pub second: Result<Counts, PendingError>,
 }
 
 // Both layouts of a given document at one width, in listing areas that held the same.
 pub fn layout_both(
-    rows: &[u32],
-    count: usize,
-    text: &[u8],
-    total: usize,
+    document: &Document<'_>,
     width: usize,
     listing: &mut [u8],
     pending: &mut [u32],
     listing2: &mut [u8],
 ) -> Layouts
     ensures { was listing ≡ was listing2
-        → Agree count (was pending) (was listing) result.first (left listing) result.second (left listing2) }
+        → Agree document.now.count (was pending) (was listing) result.first (left listing) result.second (left listing2) }
 {
-    let first = lister::layout(rows, count, text, total, width, listing);
-    let second = lister::layout_pending(rows, count, text, total, width, pending, listing2);
+    let first = lister::layout(document, width, listing);
+    let second = lister::layout_pending(document, width, pending, listing2);
     Layouts { first, second }
 }

@@ -28,7 +28,7 @@ use Rattle.binders.specs.Variables.{var_doc}
 use Rattle.declarations.specs.Declars.{keyword, info, can_leave, taken, def_rest, main_def, axiom_rest, main_axiom, declar_doc}
 use Rattle.lister.specs.Answers.{number as Answers·number, place as Answers·place, stop_answer, of_laid}
 use Rattle.pool_check.specs.Check.{is_accepted}
-use Rattle.lister.specs.Prints.{untouched as Prints·untouched, document_cleared, filled, document_listed, after_walk, print_doc, checked, print_expr, print_declar}
+use Rattle.lister.specs.Prints.{untouched as Prints·untouched, document_cleared, filled, document_listed, after_walk, print_doc, checked, print}
 use Rattle.lister.specs.Handing.{has_text, text_span, has_string, string_span, span_of, area_of, hand_out}
 
 unfoldable pub computing : Unit {0}
@@ -40,6 +40,6 @@ unfolding utf8_from utf8 points_from points is_start is_rest all_rest letterlike
     under tile_from tile digits_to digits number_doc escaped dotted joined is_anonymous name_text name_doc is_hygienic plus max_par succs_par sort_doc levels_doc leading following runs_to runs
     binders chain_body pushed in_force is_arrow is_named_pi goes_along same_group opening closing binder_name group_doc telescope arrow_par forall_par fun_par run_par runs_par binders_par var_doc
     app_head app_args app_par chain_par let_par expr_par_to expr_par expr_doc keyword info can_leave taken def_rest main_def axiom_rest main_axiom declar_doc Answers·number Answers·place
-    is_accepted stop_answer of_laid Prints·untouched document_cleared filled document_listed after_walk print_doc checked print_expr print_declar has_text text_span has_string string_span span_of area_of
+    is_accepted stop_answer of_laid Prints·untouched document_cleared filled document_listed after_walk print_doc checked print has_text text_span has_string string_span span_of area_of
     hand_out
 computing = tt

@@ -10,7 +10,8 @@ use Rattle.document.specs.Doc.{row_count, text_bytes}
 use Rattle.document.specs.Walk.{unmarked, Event, events, Progress, going, walk}
 use Rattle.layout.specs.Listing.{bytes_of}
 use Rattle.layout.specs.Call.{counts_of}
-use Rattle.lister.specs.declared.Answer.TheVariants.{Done, Listing}
+use Rattle.std.specs.Prelude.{Ok, Err}
+use Rattle.lister.specs.declared.error.PrintError.TheVariants.{Listing}
 use Rattle.lister.specs.Answers.{number, place, stop_answer}
 use Rattle.lister.specs.Prints.{Outcome, sizes_ok, after_walk, document_cleared}
 use Rattle.lister.proofs.NumberLaws.{names, document, row_area, text_area, refusal_reports}
@@ -62,21 +63,21 @@ module _ {k : Print} (r : Run k) (returned : Returned r) (rooted : Rooted r) (ok
       subst (λ (x : ℕ). Fits R T x (byte_events (events (defined r)))) (sym e) (subst (λ (x : ℕ). Fits R T rows x) (sym f) d.fits) in
       all_pass R T (events (defined r)) fits d.names ∙ ap₂ going e f
 
-  answered : DocumentFits r → r.answer ≡ cond (ltb (length r.lent.listing) size) Listing (Done (counts_of rows bytes (laid r)))
+  answered : DocumentFits r → r.answer ≡ cond (ltb (length r.lent.listing) size) (Err Listing) (Ok (counts_of rows bytes (laid r)))
   answered d = answer_is r returned rooted ok rows bytes (goes d)
 
   done : DocumentFits r → size ≤ length r.lent.listing → Succeeded r
   done d h =
       record {
         counts = counts_of rows bytes (laid r);
-        answered = answered d ∙ ap (λ (b : Bool). cond b Listing (Done (counts_of rows bytes (laid r)))) (le-ltb (length r.lent.listing) size h);
+        answered = answered d ∙ ap (λ (b : Bool). cond b (Err Listing) (Ok (counts_of rows bytes (laid r)))) (le-ltb (length r.lent.listing) size h);
       }
 
   too_short : DocumentFits r → length r.lent.listing < size → Reports r 22 0
   unfolding number place
   too_short d h =
-      let a : r.answer ≡ Listing =
-      answered d ∙ ap (λ (b : Bool). cond b Listing (Done (counts_of rows bytes (laid r)))) (lt-ltb (length r.lent.listing) size h) in
+      let a : r.answer ≡ Err Listing =
+      answered d ∙ ap (λ (b : Bool). cond b (Err Listing) (Ok (counts_of rows bytes (laid r)))) (lt-ltb (length r.lent.listing) size h) in
       (ap number a, ap place a)
 
   -- an event is refused: the walk stops there

@@ -21,21 +21,18 @@ use Rattle.layout.specs.Call as layout
 use Rattle.third_property.proofs.LayoutLaws.{blanks_put_back, rows_joined, held_rows_within_width}
 use Rattle.third_property.proofs.BreakLaws.{met-pieces, places_of_rows}
 use Rattle.layout.specs.declared.Counts.{Counts}
-use Rattle.layout.specs.declared.Laid.TheVariants as laids
-use Rattle.pool_check.specs.declared.Verdict.{Verdict}
-use Rattle.pool_check.specs.declared.Verdict.TheVariants as verdicts
+use Rattle.std.specs.Prelude.{Result, Ok, Err}
+use Rattle.pool_check.specs.declared.PoolError.{PoolError}
 use Rattle.pool.specs.Tables.{Pool, E, D}
 use Rattle.pool.specs.Unfold.{expr_at, declar_at}
-use Rattle.pool_check.specs.Check.{number as verdicts·number}
+use Rattle.pool_check.specs.Check as check
 use Rattle.binders.specs.Options.{indented}
 use Rattle.declarations.proofs.FineLaws.{expr_fine, declar_fine}
 use Rattle.third_property.proofs.PlaceLaws.{Like, expr_like, declar_like}
-use Rattle.lister.specs.declared.Answer.{Answer}
-use Rattle.lister.specs.declared.Answer.TheVariants.{Done, Pool as Answer-as-Pool, Root, Size, Names, Document, RowArea, TextArea, Listing}
-use Rattle.lister.specs.Answers.{number, place, stop_answer, of_laid}
-use Rattle.pool_check.specs.Check.{is_accepted}
+use Rattle.lister.specs.declared.error.PrintError.TheVariants.{Size, Names, Document, RowArea, TextArea, Listing}
+use Rattle.lister.specs.Answers.{Answer, of_pool, number, place, stop_answer, of_laid}
 use Rattle.lister.specs.Source.{Source, pool_of, judged}
-use Rattle.lister.specs.Prints.{Areas, Outcome, untouched, document_cleared, filled, document_listed, after_walk, print_doc, sizes_ok, checked, print_expr, print_declar}
+use Rattle.lister.specs.Prints.{Areas, Outcome, untouched, document_cleared, filled, document_listed, after_walk, print_doc, sizes_ok, checked, print}
 use Rattle.third_property.specs.ThirdProperty.{Print, expression, declaration, call, roots_in, root_doc, SameTree, Run, Returned, Rooted, Succeeded, listing, document, Premises}
 use Rattle.third_property.specs.ThirdProperty.{SameCounts, EndAlike, refused, succeeded, defined, walked, laid, reported, Stands, AsDefined, sizes, stops, short, lists}
 use Rattle.third_property.specs.ThirdProperty.{SameDocument, PutBack, met_in, StartsRows, HoldsWidth, OneRun, TwoRuns, ThirdProperty}
@@ -43,35 +40,35 @@ use Rattle.third_property.specs.Claims.{rows_in, Within}
 use Rattle.third_property.specs.Places.{pieces_of, failed, break_places}
 use Rattle.layout.proofs.Painting.{written}
 use Rattle.basics.proofs.Booleans.{true-false}
-use Rattle.pool_check.proofs.Acceptance.{accepted_is}
+use Rattle.pool_check.proofs.NumberLaws.{some_number}
 use Rattle.third_property.proofs.WalkLaws.{Near, plain_like, walks_near}
 
 -- ---- what the definitions of the two prints share
 
 -- a print over an accepted pool that has the root
-rooted_call : (k : Print) (s : Source) (root indent width : ℕ) (areas : Areas) → judged s ≡ verdicts.Accepted → root < roots_in k s
+rooted_call : (k : Print) (s : Source) (root indent width : ℕ) (areas : Areas) → judged s ≡ Ok tt → root < roots_in k s
     → call k s root indent width areas
-    ≡ cond (sizes_ok indent width) (print_doc (root_doc k indent (pool_of s) root) width areas) (untouched Size areas)
-unfolding call print_expr print_declar root_doc checked is_accepted verdicts·number
+    ≡ cond (sizes_ok indent width) (print_doc (root_doc k indent (pool_of s) root) width areas) (untouched (Err Size) areas)
+unfolding call print root_doc checked
 rooted_call expression s root indent width areas a h = rw (a, lt-ltb root (E s.words) h)
 rooted_call declaration s root indent width areas a h = rw (a, lt-ltb root (D s.words) h)
 
+-- what check refuses has a number
+pool_number : (e : PoolError) → number (Err (of_pool e)) ≡ 0 → ⊥
+unfolding number
+pool_number e h = some_number e h
+
 -- a print that succeeds is over an accepted pool that has the root
-checked-done : (v : Verdict) (present ok : Bool) (print : Outcome) (areas : Areas) → number (checked v present ok print areas).answer ≡ 0
-    → (v ≡ verdicts.Accepted) × (present ≡ true)
-unfolding checked untouched number is_accepted
-checked-done v present ok print areas h = by (is_accepted v) refl present refl h
-  where
-    by : (a : Bool) → is_accepted v ≡ a → (p : Bool) → present ≡ p
-        → number (cond a (cond p (cond ok print (untouched Size areas)) (untouched Root areas)) (untouched (Answer-as-Pool v) areas)).answer ≡ 0
-        → (v ≡ verdicts.Accepted) × (present ≡ true)
-    by true e true f h = (accepted_is v e, f)
-    by true e false f h = absurd (omega arith)
-    by false e p f h = true-false (sym (eq-eqb (verdicts·number v) 0 h) ∙ e)
+checked-done : (v : Result Unit PoolError) (present ok : Bool) (print : Outcome) (areas : Areas) → number (checked v present ok print areas).answer ≡ 0
+    → (v ≡ Ok tt) × (present ≡ true)
+unfolding checked untouched number
+checked-done (Err e) present ok print areas h = absurd (pool_number e h)
+checked-done (Ok tt) true ok print areas h = (refl, refl)
+checked-done (Ok tt) false ok print areas h = absurd (omega arith)
 
 call-done : (k : Print) (s : Source) (root indent width : ℕ) (areas : Areas) → number (call k s root indent width areas).answer ≡ 0
-    → (judged s ≡ verdicts.Accepted) × (ltb root (roots_in k s) ≡ true)
-unfolding call print_expr print_declar
+    → (judged s ≡ Ok tt) × (ltb root (roots_in k s) ≡ true)
+unfolding call print
 call-done expression s root indent width areas h = checked-done (judged s) (ltb root (E s.words)) (sizes_ok indent width) _ areas h
 call-done declaration s root indent width areas h = checked-done (judged s) (ltb root (D s.words)) (sizes_ok indent width) _ areas h
 
@@ -98,7 +95,7 @@ stop_number : (n p : ℕ) → 1 ≤ number (stop_answer n p)
 unfolding stop_answer number
 stop_number n p = by (eqb n 7) (eqb n 8) (eqb n 20)
   where
-    by : (a b c : Bool) → 1 ≤ number (cond a (Names p) (cond b (Document p) (cond c (RowArea p) (TextArea p))))
+    by : (a b c : Bool) → 1 ≤ number (Err (cond a (Names p) (cond b (Document p) (cond c (RowArea p) (TextArea p)))))
     by true b c = omega arith
     by false true c = omega arith
     by false false true = omega arith
@@ -108,7 +105,7 @@ stop_same_number : (n p q : ℕ) → number (stop_answer n p) ≡ number (stop_a
 unfolding stop_answer number
 stop_same_number n p q = by (eqb n 7) (eqb n 8) (eqb n 20)
   where
-    by : (a b c : Bool) → number (cond a (Names p) (cond b (Document p) (cond c (RowArea p) (TextArea p)))) ≡ number (cond a (Names q) (cond b (Document q) (cond c (RowArea q) (TextArea q))))
+    by : (a b c : Bool) → number (Err (cond a (Names p) (cond b (Document p) (cond c (RowArea p) (TextArea p))))) ≡ number (Err (cond a (Names q) (cond b (Document q) (cond c (RowArea q) (TextArea q)))))
     by true b c = refl
     by false true c = refl
     by false false true = refl
@@ -119,7 +116,7 @@ unfolding stop_answer number
 stop_seven n p e = rw e
 
 -- the answer for a layout that lists
-listed_answer : (full : Bool) (c : Counts) → of_laid (cond full laids.Listing (laids.Done c)) ≡ cond full Listing (Done c)
+listed_answer : (full : Bool) (c : Counts) → of_laid (cond full (layout.refusal 22 0) (Ok c)) ≡ cond full (Err Listing) (Ok c)
 unfolding of_laid
 listed_answer true c = refl
 listed_answer false c = refl
@@ -133,15 +130,15 @@ module _ {k : Print} (r : Run k) (returned : Returned r) (rooted : Rooted r) whe
   abbrev d : Doc
   d = unmarked (defined r)
 
-  rooted_is : outcome ≡ cond (sizes_ok r.indent r.width) (print_doc (defined r) r.width r.lent) (untouched Size r.lent)
+  rooted_is : outcome ≡ cond (sizes_ok r.indent r.width) (print_doc (defined r) r.width r.lent) (untouched (Err Size) r.lent)
   rooted_is = returned ∙ rooted_call k r.source r.root r.indent r.width r.lent rooted.accepted rooted.root_there
 
-  size_is : sizes_ok r.indent r.width ≡ false → outcome ≡ untouched Size r.lent
-  size_is e = rooted_is ∙ ap (λ (b : Bool). cond b (print_doc (defined r) r.width r.lent) (untouched Size r.lent)) e
+  size_is : sizes_ok r.indent r.width ≡ false → outcome ≡ untouched (Err Size) r.lent
+  size_is e = rooted_is ∙ ap (λ (b : Bool). cond b (print_doc (defined r) r.width r.lent) (untouched (Err Size) r.lent)) e
 
   pub walk_is : sizes_ok r.indent r.width ≡ true → outcome ≡ after_walk (walked r) d r.width r.lent
   unfolding print_doc
-  walk_is e = rooted_is ∙ ap (λ (b : Bool). cond b (print_doc (defined r) r.width r.lent) (untouched Size r.lent)) e
+  walk_is e = rooted_is ∙ ap (λ (b : Bool). cond b (print_doc (defined r) r.width r.lent) (untouched (Err Size) r.lent)) e
 
   module _ (ok : sizes_ok r.indent r.width ≡ true) (rows text : ℕ) (went : walked r ≡ going rows text) where
     listed_is : outcome ≡ document_listed rows text r.width d r.lent
@@ -154,7 +151,7 @@ module _ {k : Print} (r : Run k) (returned : Returned r) (rooted : Rooted r) whe
         let e = ap (λ (o : Outcome). o.areas) listed_is in
         record { rows = ap (λ (a : Areas). a.rows) e; text = ap (λ (a : Areas). a.text) e; listing = ap (λ (a : Areas). a.listing) e }
 
-    pub answer_is : r.answer ≡ cond (ltb (length r.lent.listing) (length (bytes_of (laid r)))) Listing (Done (counts_of rows text (laid r)))
+    pub answer_is : r.answer ≡ cond (ltb (length r.lent.listing) (length (bytes_of (laid r)))) (Err Listing) (Ok (counts_of rows text (laid r)))
     unfolding document_listed layout.listed
     answer_is =
         ap (λ (o : Outcome). o.answer) listed_is
@@ -173,7 +170,7 @@ module _ {k : Print} (r : Run k) (returned : Returned r) (rooted : Rooted r) whe
         let n = emitted.rows in
         rw (s.rows, s.text, n) (stored_reads_back d (replicate (length r.lent.rows - length (stored 0 d)) 0) (replicate (length r.lent.text - length (text_bytes d)) 0))
 
-    done : length (bytes_of (laid r)) ≤ length r.lent.listing → r.answer ≡ Done (counts_of rows text (laid r)) → AsDefined r
+    done : length (bytes_of (laid r)) ≤ length r.lent.listing → r.answer ≡ Ok (counts_of rows text (laid r)) → AsDefined r
     done enough answered =
         let s : Succeeded r = record { counts = counts_of rows text (laid r); answered = answered } in
         lists s ok went enough stands
@@ -185,7 +182,7 @@ module _ {k : Print} (r : Run k) (returned : Returned r) (rooted : Rooted r) whe
     after_going = by (ltb (length r.lent.listing) (length (bytes_of (laid r)))) refl answer_is
       where
         by : (b : Bool) → ltb (length r.lent.listing) (length (bytes_of (laid r))) ≡ b
-            → r.answer ≡ cond b Listing (Done (counts_of rows text (laid r))) → AsDefined r
+            → r.answer ≡ cond b (Err Listing) (Ok (counts_of rows text (laid r))) → AsDefined r
         by true e a = short rows text ok went (ltb-true (length r.lent.listing) (length (bytes_of (laid r))) e) a stands
         by false e a = done (ltb-false (length r.lent.listing) (length (bytes_of (laid r))) e) a
 
@@ -249,7 +246,7 @@ module _ {k : Print} (r : Run k) (returned : Returned r) (s : Succeeded r) where
   success = ap number s.answered
 
   same_answer : (t : Succeeded r) → t.counts ≡ s.counts
-  same_answer t = let e : Done t.counts ≡ Done s.counts = sym t.answered ∙ s.answered in cc
+  same_answer t = let e : ◌≡◌ {A = Answer} (Ok t.counts) (Ok s.counts) = sym t.answered ∙ s.answered in cc
 
   success-listed : Listed r s
   success-listed =
@@ -401,7 +398,7 @@ module _ {k : Print} (a b : Run k) (returned : Returned a) (returned' : Returned
 
     both_alike : AsDefined a → AsDefined b → EndAlike a b
     unfolding number place
-    both_alike (sizes e x h) (sizes f y i) = refused_alike Size Size x y (omega arith) refl (λ other. refl)
+    both_alike (sizes e x h) (sizes f y i) = refused_alike (Err Size) (Err Size) x y (omega arith) refl (λ other. refl)
     both_alike (sizes e x h) (stops m q ok f y u v w) = size_other e ok
     both_alike (sizes e x h) (short r t ok f l y st) = size_other e ok
     both_alike (sizes e x h) (lists t ok f l st i j c) = size_other e ok
@@ -412,7 +409,7 @@ module _ {k : Print} (a b : Run k) (returned : Returned a) (returned' : Returned
     both_alike (stops n p ok e x u v w) (lists t ok' f l st i j c) = absurd (near_of (stopped n p) (going t.counts.rows t.counts.text) e f)
     both_alike (short r t ok e l x st) (sizes f y i) = other_size ok f
     both_alike (short r t ok e l x st) (stops m q ok' f y u v w) = absurd (near_of (going r t) (stopped m q) e f)
-    both_alike (short r t ok e l x st) (short r' t' ok' f l' y st') = refused_alike Listing Listing x y (omega arith) refl (λ other. refl)
+    both_alike (short r t ok e l x st) (short r' t' ok' f l' y st') = refused_alike (Err Listing) (Err Listing) x y (omega arith) refl (λ other. refl)
     both_alike (short r t ok e l x st) (lists t' ok' f l' st' i j c) =
         absurd (let g = fit_alike in let q = taken.listing in omega arith)
     both_alike (lists s ok e l st i j c) (sizes f y h) = other_size ok f

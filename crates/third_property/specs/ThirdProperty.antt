@@ -1,5 +1,5 @@
 -- The third property (demand 3), clause by clause and in its order, over runs of print expression and print declaration.
-use Rattle.std.specs.Prelude.{ℕ, ◌<◌, ◌≤◌, true, false, List, ◌≡◌, length, take, replicate}
+use Rattle.std.specs.Prelude.{ℕ, ◌<◌, ◌≤◌, true, false, List, ◌≡◌, length, take, replicate, Ok, Err}
 use Rattle.document.specs.Doc.{Doc, row_count, text_bytes}
 use Rattle.document.specs.Stored.{stored}
 use Rattle.document.specs.Walk.{Marked, unmarked, Progress, going, stopped, walk}
@@ -10,16 +10,14 @@ use Rattle.layout.specs.Call.{counts_of, doc_of}
 use Rattle.third_property.specs.Claims.{restored, in_order, rows_in, joined, Within}
 use Rattle.third_property.specs.Places.{Met, met, pieces_of, places_in, failed, break_places}
 use Rattle.layout.specs.declared.Counts.{Counts}
-use Rattle.pool_check.specs.declared.Verdict.TheVariants.{Accepted}
 use Rattle.pool.specs.Tables.{Pool, E, D}
 use Rattle.pool.specs.Tree.{forget, forgetᵈ}
 use Rattle.pool.specs.Unfold.{expr_at, declar_at}
 use Rattle.binders.specs.Options.{indented}
 use Rattle.pretty_printer.specs.Exprs.{expr_doc}
 use Rattle.declarations.specs.Declars.{declar_doc}
-use Rattle.lister.specs.declared.Answer.{Answer}
-use Rattle.lister.specs.declared.Answer.TheVariants.{Done, Size, Listing}
-use Rattle.lister.specs.Answers.{number, place, stop_answer}
+use Rattle.lister.specs.declared.error.PrintError.TheVariants.{Size, Listing}
+use Rattle.lister.specs.Answers.{Answer, number, place, stop_answer}
 use Rattle.lister.specs.Source.{Source, pool_of, judged}
 use Rattle.lister.specs.Prints.{Areas, Outcome, filled, sizes_ok, print_expr, print_declar}
 
@@ -81,13 +79,13 @@ run_of k source root indent width areas =
 
 -- "An accepted pool is one that check refuses under no number", and the root is in it
 pub record Rooted {k : Print} (r : Run k) : Type 0 where
-  pub accepted : judged r.source ≡ Accepted
+  pub accepted : judged r.source ≡ Ok tt
   pub root_there : r.root < roots_in k r.source
 
 -- "it succeeds when no number refuses it": its counts
 pub record Succeeded {k : Print} (r : Run k) : Type 0 where
   pub counts : Counts
-  pub answered : r.answer ≡ Done counts
+  pub answered : r.answer ≡ Ok counts
 
 -- the listing and the document that a run which succeeds leaves in the areas
 abbrev pub listing : {k : Print} (r : Run k) → Succeeded r → List ℕ
@@ -148,14 +146,14 @@ pub record Stands {k : Print} (r : Run k) : Type 0 where
 -- "Each refusal, document and listing, and each count but the fit tests, is the one 01 defines for its run's root."
 pub data AsDefined {k : Print} (r : Run k) : Type 0 where
   -- 6
-  sizes : sizes_ok r.indent r.width ≡ false → r.answer ≡ Size → r.left ≡ r.lent → AsDefined r
+  sizes : sizes_ok r.indent r.width ≡ false → r.answer ≡ Err Size → r.left ≡ r.lent → AsDefined r
   -- 7, 8, 20, 21
   stops : (n at : ℕ) → sizes_ok r.indent r.width ≡ true → walked r ≡ stopped n at → r.answer ≡ stop_answer n at
       → r.left.rows ≡ replicate (length r.lent.rows) 0 → r.left.text ≡ replicate (length r.lent.text) 0
       → r.left.listing ≡ r.lent.listing → AsDefined r
   -- 22
   short : (rows text : ℕ) → sizes_ok r.indent r.width ≡ true → walked r ≡ going rows text
-      → length r.lent.listing < length (bytes_of (laid r)) → r.answer ≡ Listing → Stands r → AsDefined r
+      → length r.lent.listing < length (bytes_of (laid r)) → r.answer ≡ Err Listing → Stands r → AsDefined r
   -- none
   lists : (s : Succeeded r) → sizes_ok r.indent r.width ≡ true → walked r ≡ going s.counts.rows s.counts.text
       → length (bytes_of (laid r)) ≤ length r.lent.listing → Stands r → listing r s ≡ bytes_of (laid r)

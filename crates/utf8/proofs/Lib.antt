@@ -1,3 +1,4 @@
 pub mod Laws
 pub mod Table
 pub mod Classes
+pub mod Standard

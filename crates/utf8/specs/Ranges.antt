@@ -1,23 +1,13 @@
--- 01's ranges of letterlike characters by number, in 01's order: "U+03B1-03C9, U+0391-03A9, U+1F00-1FFE, U+03CA-03FB,
--- U+2100-214F"; "U+2080-2089, U+2090-209C, U+1D62-1D6A"; "ends excluded on the right".
-use Rattle.std.specs.Prelude.{ℕ, zero, suc}
+-- The ranges of letterlike characters by number, in the order in which `Letterlike` names them; ends excluded on the right.
+use Rattle.std.specs.Prelude.{ℕ, zero, suc, Bool}
+use Rattle.utf8.specs.Utf8.{within}
 
-unfoldable pub lower_end : ℕ → ℕ
-lower_end zero = 0x3b1
-lower_end (suc zero) = 0x391
-lower_end (suc (suc zero)) = 0x1f00
-lower_end (suc (suc (suc zero))) = 0x3ca
-lower_end (suc (suc (suc (suc zero)))) = 0x2100
-lower_end (suc (suc (suc (suc (suc zero))))) = 0x2080
-lower_end (suc (suc (suc (suc (suc (suc zero)))))) = 0x2090
-lower_end (suc (suc (suc (suc (suc (suc (suc k))))))) = 0x1d62
-
-unfoldable pub upper_end : ℕ → ℕ
-upper_end zero = 0x3c9
-upper_end (suc zero) = 0x3a9
-upper_end (suc (suc zero)) = 0x1ffe
-upper_end (suc (suc (suc zero))) = 0x3fb
-upper_end (suc (suc (suc (suc zero)))) = 0x214f
-upper_end (suc (suc (suc (suc (suc zero))))) = 0x2089
-upper_end (suc (suc (suc (suc (suc (suc zero)))))) = 0x209c
-upper_end (suc (suc (suc (suc (suc (suc (suc k))))))) = 0x1d6a
+unfoldable pub in_range : ℕ → ℕ → Bool
+in_range zero c = within 0x3b1 0x3c9 c
+in_range (suc zero) c = within 0x391 0x3a9 c
+in_range (suc (suc zero)) c = within 0x1f00 0x1ffe c
+in_range (suc (suc (suc zero))) c = within 0x3ca 0x3fb c
+in_range (suc (suc (suc (suc zero)))) c = within 0x2100 0x214f c
+in_range (suc (suc (suc (suc (suc zero))))) c = within 0x2080 0x2089 c
+in_range (suc (suc (suc (suc (suc (suc zero)))))) c = within 0x2090 0x209c c
+in_range (suc (suc (suc (suc (suc (suc (suc k))))))) c = within 0x1d62 0x1d6a c

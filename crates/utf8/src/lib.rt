@@ -2,7 +2,6 @@
 #![tactic(auto)]
 
 pub mod letterlike;
-pub mod ranges;
 mod scan;
 
 ghost use Rattle.std.specs.Prelude.{◌≡◌};
@@ -14,14 +13,5 @@ pub use letterlike::{is_letterlike_rest, is_letterlike_start, ok_str};
 pub fn is_utf8(s: &[u8]) -> bool
     ensures { result ≡ utf8 s.now }
 {
-    let mut state = scan::start();
-    let mut i: usize = 0;
-    while i < s.len() {
-        state = scan::next(state, scan::wide(s[i]));
-        if !state.ok {
-            return false;
-        }
-        i += 1;
-    }
-    state.need == 0
+    std::str::from_utf8(s).is_ok()
 }

@@ -1,21 +1,30 @@
-use Rattle.comparison.proofs.CallLaws.{pool_refused, row_missing, ask_compare, rows_equal, rows_differ}
+use native.Mathlib.Omega.{arith}
+use mathlib.Core.Path.{◌≡◌, sym, ap, ◌∙◌}
+use Rattle.pool.specs.Tables.{Pool, E}
+use Rattle.comparison.proofs.CallLaws.{err_is, first_missing, second_missing, pool_refused, row_missing, rows_differ, rows_equal}
+use Rattle.comparison.proofs.compare.Goals.{then-exprs-first-via-then-exprs-first, then-exprs-first-via-else-exprs-first+then-exprs-second}
 use Rattle.comparison.proofs.compare.Goals as goal
 
-pub returns-then-not-is_accepted : goal.returns-then-not-is_accepted
-returns-then-not-is_accepted c = pool_refused _ _ _ _ _ c.check-verdict.ensures _ c.is_accepted.ensures c.if-not-is_accepted.true
+pub returns-in_err-pool : goal.returns-in_err-pool
+returns-in_err-pool c = err_is _ _ c.from_residual.ensures.1 ∙ pool_refused _ _ _ _ _ (sym c.in_err-pool.ensures.verdict)
 
-pub returns-then-not-both : goal.returns-then-not-both
-returns-then-not-both c =
-    row_missing _ _ _ _ _ c.check-verdict.ensures _ c.is_accepted.ensures _ c.tables_of-t.ensures _ c.both.ensures c.if-not-is_accepted.false c.if-not-both.true
+pub returns-then-exprs-first : goal.returns-then-exprs-first
+returns-then-exprs-first c =
+    let here : c.in_ok-pool.pool.words.tables.exprs ≡ E c.args.words.now = c.in_ok-pool.pool.words.found.exprs ∙ ap (λ (q : Pool). E q.words) c.in_ok-pool.ensures.same in
+    row_missing _ _ _ _ (sym c.in_ok-pool.ensures.verdict)
+    (elim c.then-exprs-first.branch [
+      | then-exprs-first-via-then-exprs-first w ↦ first_missing c.args.first c.args.second (E c.args.words.now) (omega (arith, here, w.if-exprs-first))
+      | then-exprs-first-via-else-exprs-first+then-exprs-second w ↦ second_missing c.args.first c.args.second (E c.args.words.now) (omega (arith, here, w.if-exprs-second))
+    ])
 
-pub compare-found-requires : goal.compare-found-requires
-compare-found-requires c =
-    ask_compare _ _ _ _ _ c.check-verdict.ensures _ c.is_accepted.ensures _ c.tables_of-t.ensures _ c.both.ensures c.if-not-is_accepted.false c.if-not-both.false
+pub returns-in-Differ : goal.returns-in-Differ
+returns-in-Differ c =
+    let exprs = c.in_ok-pool.pool.words.found.exprs in
+    rows_differ _ _ _ _ (sym c.in_ok-pool.ensures.verdict) _ c.in_ok-pool.ensures.same (omega (arith, exprs, c.if-exprs-first.false)) (omega
+    (arith, exprs, c.if-exprs-second.false)) _ c.compare.ensures _ _ c.in-Differ.is
 
-pub returns-then-found-eq1 : goal.returns-then-found-eq1
-returns-then-found-eq1 c =
-    rows_equal _ _ _ _ _ c.check-verdict.ensures _ c.is_accepted.ensures _ c.tables_of-t.ensures _ c.both.ensures c.if-not-is_accepted.false c.if-not-both.false _ _ _ c.compare-found.ensures c.if-found-eq1.true
-
-pub returns : goal.returns
-returns c =
-    rows_differ _ _ _ _ _ c.check-verdict.ensures _ c.is_accepted.ensures _ c.tables_of-t.ensures _ c.both.ensures c.if-not-is_accepted.false c.if-not-both.false _ _ _ c.compare-found.ensures c.if-found-eq1.false
+pub returns-in_default : goal.returns-in_default
+returns-in_default c =
+    let exprs = c.in_ok-pool.pool.words.found.exprs in
+    rows_equal _ _ _ _ (sym c.in_ok-pool.ensures.verdict) _ c.in_ok-pool.ensures.same (omega (arith, exprs, c.if-exprs-first.false)) (omega
+    (arith, exprs, c.if-exprs-second.false)) _ c.compare.ensures c.in_default.not-Differ

@@ -6,12 +6,12 @@ pub returns-in-Text : goal.returns-in-Text
 unfolding span_of
 returns-in-Text c =
     let a = c.args in
-    c.text_span.ensures ∙ sym
-    (ap (span_of (record { bytes = a.bytes.now; words = a.words.now }) a.rows.now a.count a.text.now a.total) c.in-Text.is)
+    let d = a.document.now in
+    c.text_span.ensures ∙ sym (ap (span_of (record { bytes = a.bytes.now; words = a.words.now }) d.rows.now d.count d.text.now d.total) c.in-Text.is)
 
 pub returns-in-String : goal.returns-in-String
 unfolding span_of
 returns-in-String c =
     let a = c.args in
-    c.string_span.ensures ∙ sym
-    (ap (span_of (record { bytes = a.bytes.now; words = a.words.now }) a.rows.now a.count a.text.now a.total) c.in-String.is)
+    let d = a.document.now in
+    c.string_span.ensures ∙ sym (ap (span_of (record { bytes = a.bytes.now; words = a.words.now }) d.rows.now d.count d.text.now d.total) c.in-String.is)

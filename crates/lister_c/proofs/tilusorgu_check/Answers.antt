@@ -2,9 +2,4 @@ use Rattle.lister_c.proofs.Answers.{check_answer}
 use Rattle.lister_c.proofs.tilusorgu_check.Goals as goal
 
 pub returns : goal.returns
-returns c =
-    check_answer
-    c.args.out.now
-    c.check.ensures
-    c.of_verdict-report.ensures
-    c.fill.ensures
+returns c = check_answer _ c.args.out.now c.of_check-report.ensures c.fill.ensures

@@ -1,10 +1,7 @@
 use Rattle.lister_c.proofs.Answers.{layout_answer}
+use Rattle.lister_c.specs.Reports.{of_laid}
 use Rattle.lister_c.proofs.tilusorgu_layout.Goals as goal
 
 pub returns : goal.returns
-returns c =
-    layout_answer
-    c.args.out.now
-    c.layout.ensures
-    c.of_laid-report.ensures
-    c.fill.ensures
+unfolding of_laid
+returns c = layout_answer c.args.out.now c.layout.ensures c.reported-report.ensures c.fill.ensures

@@ -1,6 +1,7 @@
 use Rattle.lister_c.proofs.Answers.{layout_pending_answer}
+use Rattle.lister_c.specs.Reports.{of_laid_pending}
 use Rattle.lister_c.proofs.tilusorgu_layout_pending.Goals as goal
 
 pub returns : goal.returns
-returns c =
-    layout_pending_answer c.args.out.now c.layout_pending.ensures c.of_laid_pending-report.ensures c.fill.ensures
+unfolding of_laid_pending
+returns c = layout_pending_answer c.args.out.now c.layout_pending.ensures c.reported-report.ensures c.fill.ensures

@@ -1,51 +1,49 @@
 use Rattle.pool_check.proofs.Verdicts.{refused_here, passed_on}
-use Rattle.pool_check.specs.declared.Verdict.TheVariants.{Rows}
+use Rattle.pool_check.specs.declared.PoolError.TheVariants.{Rows}
 use Rattle.pool_check.specs.Stages.{words_verdict}
 use mathlib.Core.Path.{◌∙◌}
 use Rattle.pool_check.proofs.check_words.Goals as goal
 
-pub returns-then-level-t : goal.returns-then-level-t
+pub returns-in-Some : goal.returns-in-Some
 unfolding words_verdict
-returns-then-level-t c =
-    refused_here _ _ Rows _ _ _ (c.first_bad_level-level.ensures c.args.bytes.now) c.requires.0.of_words.levels c.if-level-t.true
+returns-in-Some c =
+    refused_here _ _ Rows _ _ c.in-Some.ensures
 
-pub returns-then-list-t : goal.returns-then-list-t
+pub returns-in-Some-first_bad_list : goal.returns-in-Some-first_bad_list
 unfolding words_verdict
-returns-then-list-t c =
-    refused_here _ _ Rows _ _ _ (c.first_bad_list-list.ensures c.args.bytes.now c.args.names.now) c.requires.0.of_words.lists c.if-list-t.true
-    ∙ passed_on _ _ Rows _ _ _ (c.first_bad_level-level.ensures c.args.bytes.now) c.requires.0.of_words.levels c.if-level-t.false
+returns-in-Some-first_bad_list c =
+    refused_here _ _ Rows _ _ c.in-Some-first_bad_list.ensures
+    ∙ passed_on _ _ Rows _ c.in_default.ensures
 
-pub returns-then-entry-t : goal.returns-then-entry-t
+pub returns-in-Some-first_bad_entry : goal.returns-in-Some-first_bad_entry
 unfolding words_verdict
-returns-then-entry-t c =
-    refused_here _ _ Rows _ _ _ (c.first_bad_entry-entry.ensures c.args.bytes.now c.args.names.now) c.requires.0.of_words.entries c.if-entry-t.true
-    ∙ passed_on _ _ Rows _ _ _ (c.first_bad_list-list.ensures c.args.bytes.now c.args.names.now)
-    c.requires.0.of_words.lists c.if-list-t.false
-    ∙ passed_on _ _ Rows _ _ _ (c.first_bad_level-level.ensures c.args.bytes.now) c.requires.0.of_words.levels c.if-level-t.false
+returns-in-Some-first_bad_entry c =
+    refused_here _ _ Rows _ _ c.in-Some-first_bad_entry.ensures
+    ∙ passed_on _ _ Rows _ c.in_default-first_bad_list.ensures
+    ∙ passed_on _ _ Rows _ c.in_default.ensures
 
-pub returns-then-expr-t : goal.returns-then-expr-t
+pub returns-in-Some-first_bad_expr : goal.returns-in-Some-first_bad_expr
 unfolding words_verdict
-returns-then-expr-t c =
-    refused_here _ _ Rows _ _ _ c.first_bad_expr-expr.ensures c.requires.0.of_words.exprs c.if-expr-t.true
-    ∙ passed_on _ _ Rows _ _ _ (c.first_bad_entry-entry.ensures c.args.bytes.now c.args.names.now)
-    c.requires.0.of_words.entries c.if-entry-t.false
-    ∙ passed_on _ _ Rows _ _ _ (c.first_bad_list-list.ensures c.args.bytes.now c.args.names.now) c.requires.0.of_words.lists c.if-list-t.false
-    ∙ passed_on _ _ Rows _ _ _ (c.first_bad_level-level.ensures c.args.bytes.now) c.requires.0.of_words.levels c.if-level-t.false
+returns-in-Some-first_bad_expr c =
+    refused_here _ _ Rows _ _ c.in-Some-first_bad_expr.ensures
+    ∙ passed_on _ _ Rows _ c.in_default-first_bad_entry.ensures
+    ∙ passed_on _ _ Rows _ c.in_default-first_bad_list.ensures
+    ∙ passed_on _ _ Rows _ c.in_default.ensures
 
-pub returns-then-declar-t : goal.returns-then-declar-t
+pub returns-in-Some-first_bad_declar : goal.returns-in-Some-first_bad_declar
 unfolding words_verdict
-returns-then-declar-t c =
-    refused_here _ _ Rows _ _ _ (c.first_bad_declar-declar.ensures c.args.bytes.now) c.requires.0.of_words.declars c.if-declar-t.true
-    ∙ passed_on _ _ Rows _ _ _ c.first_bad_expr-expr.ensures c.requires.0.of_words.exprs c.if-expr-t.false
-    ∙ passed_on _ _ Rows _ _ _ (c.first_bad_entry-entry.ensures c.args.bytes.now c.args.names.now) c.requires.0.of_words.entries c.if-entry-t.false
-    ∙ passed_on _ _ Rows _ _ _ (c.first_bad_list-list.ensures c.args.bytes.now c.args.names.now) c.requires.0.of_words.lists c.if-list-t.false
-    ∙ passed_on _ _ Rows _ _ _ (c.first_bad_level-level.ensures c.args.bytes.now) c.requires.0.of_words.levels c.if-level-t.false
+returns-in-Some-first_bad_declar c =
+    refused_here _ _ Rows _ _ c.in-Some-first_bad_declar.ensures
+    ∙ passed_on _ _ Rows _ c.in_default-first_bad_expr.ensures
+    ∙ passed_on _ _ Rows _ c.in_default-first_bad_entry.ensures
+    ∙ passed_on _ _ Rows _ c.in_default-first_bad_list.ensures
+    ∙ passed_on _ _ Rows _ c.in_default.ensures
 
 pub returns : goal.returns
 unfolding words_verdict
 returns c =
-    passed_on _ _ Rows _ _ _ (c.first_bad_declar-declar.ensures c.args.bytes.now) c.requires.0.of_words.declars c.if-declar-t.false
-    ∙ passed_on _ _ Rows _ _ _ c.first_bad_expr-expr.ensures c.requires.0.of_words.exprs c.if-expr-t.false
-    ∙ passed_on _ _ Rows _ _ _ (c.first_bad_entry-entry.ensures c.args.bytes.now c.args.names.now) c.requires.0.of_words.entries c.if-entry-t.false
-    ∙ passed_on _ _ Rows _ _ _ (c.first_bad_list-list.ensures c.args.bytes.now c.args.names.now) c.requires.0.of_words.lists c.if-list-t.false
-    ∙ passed_on _ _ Rows _ _ _ (c.first_bad_level-level.ensures c.args.bytes.now) c.requires.0.of_words.levels c.if-level-t.false
+    passed_on _ _ Rows _ c.in_default-first_bad_declar.ensures
+    ∙ passed_on _ _ Rows _ c.in_default-first_bad_expr.ensures
+    ∙ passed_on _ _ Rows _ c.in_default-first_bad_entry.ensures
+    ∙ passed_on _ _ Rows _ c.in_default-first_bad_list.ensures
+    ∙ passed_on _ _ Rows _ c.in_default.ensures

@@ -1,9 +1,17 @@
-use Rattle.pool.specs.Areas.{over}
-use Rattle.binders.proofs.LoopLaws.{Counting}
+use Prim.Native.Nat.{◌+◌, ◌<◌, ◌≤◌}
+use mathlib.Core.Path.{◌≡◌}
+use Rattle.pool.specs.Tables.{E}
+use Rattle.pool.specs.Unfold.{expr_at}
+use Rattle.binders.specs.Options.{pool_of}
+use Rattle.binders.specs.Steps.{chain_length}
 use Rattle.binders.proofs.chain.chain_length.Given as goal
 
-abbrev pub invariant-loop-kind : goal.invariant-loop-kind
-invariant-loop-kind l = Counting (over l.bytes l.names l.words) l.r l.at l.n l.kind
+abbrev pub invariant-loop-n : goal.invariant-loop-n
+invariant-loop-n l = record {
+  row : l.at < E (pool_of l.p).words;
+  count : l.n + chain_length (expr_at (pool_of l.p) l.at) ≡ chain_length (expr_at (pool_of l.p) l.r);
+  low : l.at + l.n ≤ l.r;
+}
 
-abbrev pub decreases-loop-kind : goal.decreases-loop-kind
-decreases-loop-kind l = l.at
+abbrev pub decreases-loop-n : goal.decreases-loop-n
+decreases-loop-n l = l.at

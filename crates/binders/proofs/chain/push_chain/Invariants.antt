@@ -1,9 +1,9 @@
-use Rattle.pool.specs.Areas.{over}
-use Rattle.binders.proofs.LoopLaws.{Pushing}
+use Rattle.binders.specs.Options.{pool_of}
+use Rattle.binders.proofs.PushLaws.{Pushing}
 use Rattle.binders.proofs.chain.push_chain.Given as goal
 
-abbrev pub invariant-loop-kind : goal.invariant-loop-kind
-invariant-loop-kind l = Pushing (over l.bytes l.names l.words) l.initial.l l.h l.r l.l l.at l.link l.kind
+abbrev pub invariant-loop-k : goal.invariant-loop-k
+invariant-loop-k l = Pushing (pool_of l.p) l.initial.k l.h l.r l.k l.at l.scope
 
-abbrev pub decreases-loop-kind : goal.decreases-loop-kind
-decreases-loop-kind l = l.at
+abbrev pub decreases-loop-k : goal.decreases-loop-k
+decreases-loop-k l = l.at

@@ -1,9 +1,9 @@
+use Rattle.std.specs.Slice.Iter.{chunks_rest}
 use Rattle.byte_check.specs.Runs.{Ascii}
-use Prim.Native.Nat.{◌≤◌, ◌-◌}
+use lib.ListN.{length, drop}
+use mathlib.Core.Path.{◌≡◌}
+use Prim.Native.Nat.{◌≤◌}
 use Rattle.byte_check.proofs.strings.ascii_blocks.Given as goal
 
-abbrev pub invariant-loop-at : goal.invariant-loop-at
-invariant-loop-at l = (l.at ≤ l.size) × (Ascii l.bytes l.at)
-
-abbrev pub decreases-loop-at : goal.decreases-loop-at
-decreases-loop-at l = l.size - l.at
+abbrev pub invariant-loop-block : goal.invariant-loop-block
+invariant-loop-block l = (l.at ≤ length l.bytes) × (chunks_rest l.block-iterator ≡ drop l.at l.bytes) × (Ascii l.bytes l.at)

@@ -1,45 +1,36 @@
 use Rattle.pool.specs.Rules.{string_ok}
 use Rattle.pool.specs.Tables.{string_word}
-use Rattle.byte_check.proofs.Scan.{bad_start, bad_step, bad_found, bad_none}
-use Rattle.byte_check.proofs.RunLaws.{known_none, known_next, before_next}
-use Rattle.pool.specs.Areas.{over}
-use Rattle.byte_check.specs.Runs.{Known, before}
-use mathlib.Core.List.{List, []}
+use Rattle.pool.specs.Views.{read}
+use Rattle.byte_check.proofs.Scan.{found_at, found_none}
+use Rattle.byte_check.proofs.RunLaws.{ascii_front, known_none, known_next, before_next}
+use Rattle.byte_check.specs.Runs.{before}
+use borrow.Author.Count.{below_none, below_more}
 use Prim.Native.Nat.{ℕ}
-use mathlib.Core.Path.{◌≡◌, refl, sym, ◌∙◌}
+use mathlib.Core.Path.{refl, sym, ◌∙◌}
 use native.Mathlib.Omega.{arith}
 use Rattle.byte_check.proofs.strings.first_bad_string.Goals as goal
 
-known_start : (bytes names : List ℕ) → Known bytes (before (λ i. string_word names i 0) 0) 0
-unfolding before
-known_start bytes names = known_none bytes
-
-last-start : (names : List ℕ) → 0 ≡ before (λ i. string_word names i 0) 0
-unfolding before
-last-start names = refl
-
 pub loop-r-init : goal.loop-r-init
-loop-r-init c = (
-  omega arith,
-  λ ws. bad_start (string_ok (over c.args.bytes.now c.args.names.now ws)) _ _ c.requires.strings,
-  known_start
-      c.args.bytes.now c.args.names.now,
-  last-start c.args.names.now,
-)
+unfolding before
+loop-r-init c = (below_none _, known_none _, refl)
+
+pub string_ok-requires : goal.string_ok-requires
+string_ok-requires c =
+    let ascii = ascii_front c.args.pool.now.bytes.now _ _ c.ascii_blocks-ascii.ensures.0 c.ascii_blocks-ascii.ensures.1 in
+    (rw c.loop-r.invariant.2 c.loop-r.invariant.1, c.loop-r.invariant.2, ascii)
 
 pub returns-then-not-string_ok : goal.returns-then-not-string_ok
 returns-then-not-string_ok c =
-    λ ws. bad_found (string_ok (over c.args.bytes.now c.args.names.now ws)) _ _ _ c.loop-r-test.true _ (c.string_ok.ensures ws) (c.loop-r.invariant.1 ws) c.if-not-string_ok.true
+    let f = sym c.string_ok.ensures ∙ c.if-not-string_ok.true in
+    found_at (string_ok (read c.args.pool.now)) _ _ (omega (arith, c.type_inv.pool)) c.loop-r.invariant.0 f
 
 pub loop-r-preserved : goal.loop-r-preserved
-loop-r-preserved c = (
-  omega arith,
-  λ ws. bad_step (string_ok (over c.args.bytes.now c.args.names.now ws)) _ _ _ c.loop-r-test.true _ (c.string_ok.ensures ws) (c.loop-r.invariant.1 ws) c.if-not-string_ok.false,
-  known_next (over c.args.bytes.now c.args.names.now []) c.loop-r.r c.string_end.result c.string_end.ensures.0 c.loop-r.known c.larger-known.result c.loop-r.invariant.2
-      (sym (c.string_ok.ensures []) ∙ c.if-not-string_ok.false) c.larger-known.ensures,
-  before_next (λ (i : ℕ). string_word c.args.names.now i 0) c.loop-r.r c.string_word-last.result c.string_word-last.ensures.0,
-)
+loop-r-preserved c =
+    let right = sym c.string_ok.ensures ∙ c.if-not-string_ok.false in (
+      below_more _ _ c.loop-r.invariant.0 right,
+      known_next (read c.args.pool.now) c.loop-r.r _ c.string_end.ensures.0 c.loop-r.known _ c.loop-r.invariant.1 right c.max-known.ensures,
+      before_next (λ (i : ℕ). string_word c.args.pool.now.names.words.now i 0) c.loop-r.r _ c.string-last.ensures.0,
+    )
 
 pub returns : goal.returns
-returns c =
-    λ ws. bad_none (string_ok (over c.args.bytes.now c.args.names.now ws)) _ _ _ c.loop-r.invariant.0 c.loop-r-test.false (c.loop-r.invariant.1 ws)
+returns c = found_none (string_ok (read c.args.pool.now)) _ (λ k h. c.loop-r.invariant.0 k (omega (arith, c.type_inv.pool)))

@@ -1,12 +1,10 @@
 use Rattle.byte_check.proofs.RunLaws.{valid_none, valid_inside_point, valid_within, valid_past}
-use native.Mathlib.Omega.{arith}
 use mathlib.Core.Bool.{not}
 use mathlib.Core.Path.{sym, ap, ◌∙◌}
 use Rattle.byte_check.proofs.strings.is_valid.Goals as goal
 
 pub returns-then-to-from : goal.returns-then-to-from
-returns-then-to-from c =
-    valid_none c.args.bytes.now c.args.from c.args.to (omega (arith, c.if-to-from.true))
+returns-then-to-from c = valid_none c.args.bytes.now c.args.from c.args.to c.if-to-from.true
 
 pub returns-then-is_follower : goal.returns-then-is_follower
 returns-then-is_follower c =
@@ -21,6 +19,6 @@ returns-then-to-known c =
 
 pub returns : goal.returns
 returns c =
-    c.is_utf8.ensures ∙ c.ascii_end-rest.ensures.1
+    c.is_utf8.ensures
     ∙ valid_past c.args.bytes.now c.args.from c.args.to c.args.known c.requires.0 (sym c.is_follower.ensures ∙ c.if-is_follower.false)
-    c.if-to-from.false c.larger-unread.result c.if-to-known.false (omega (arith, c.larger-unread.ensures))
+    c.if-to-from.false c.max-unread.result c.if-to-known.false c.max-unread.ensures

@@ -1,14 +1,8 @@
-use Rattle.pool.specs.Areas.{over}
+use Rattle.pool.specs.Views.{lent}
 use Rattle.compare.specs.Equal.{EqualLevels}
 use Rattle.compare.proofs.SeenLaws.{holds_none}
 use Rattle.compare.proofs.levels.level_all.Goals as goal
 
 pub level-requires : goal.level-requires
 level-requires c =
-    record {
-      ready = c.requires.0;
-      a_row = c.requires.1;
-      b_row = c.requires.2;
-      holds = holds_none
-          (EqualLevels (over c.args.bytes.now c.args.names.now c.args.words.now)) 1024;
-    }
+    record { a_row = c.requires.0; b_row = c.requires.1; holds = holds_none (EqualLevels (lent c.args.pool.now)) 1024 }

@@ -1,8 +1,6 @@
-use Rattle.pool.specs.Areas.{over}
+use Rattle.links.proofs.LinkLaws.{zeros_clear}
 use Rattle.compare.proofs.LevelLaws.{told_pass}
 use Rattle.compare.proofs.levels.pass_levels.Goals as goal
 
 pub returns : goal.returns
-returns c =
-    told_pass (over c.args.bytes.now c.args.names.now c.args.words.now) c.args.a c.args.b _ _ _ c.requires.3 (c.link.ensures
-    c.if-not-link.false) c.level_rows.ensures
+returns g c = told_pass _ c.args.a c.args.b _ _ _ (zeros_clear _) (c.link.ensures c.if-not-link.false) c.level_rows.ensures

@@ -2,21 +2,18 @@ use Rattle.compare.proofs.LevelLaws.{one_list, other_lengths, lists_there, lists
 use Rattle.compare.proofs.lists.same_list.Goals as goal
 
 pub returns-then-a-b : goal.returns-then-a-b
-returns-then-a-b c =
-    one_list _ _ _ _ c.requires.0 _ _ c.requires.1 c.requires.2 c.if-a-b.true
+returns-then-a-b c = one_list _ c.args.pool.now.sound _ _ c.requires.0 c.requires.1 c.if-a-b.true
 
-pub returns-then-size-list_length : goal.returns-then-size-list_length
-returns-then-size-list_length c =
-    other_lengths _ _ _ _ c.requires.0 _ _ c.requires.1 c.requires.2 _ _ c.list_length-size.ensures.0 c.list_length.ensures.0 c.if-size-list_length.true
+pub returns-then-size-list : goal.returns-then-size-list
+returns-then-size-list c =
+    other_lengths _ c.args.pool.now.sound _ _ c.requires.0 c.requires.1 _ _ c.list-size.ensures.0 c.list.ensures.0 c.if-size-list.true
 
 pub same_entries-requires : goal.same_entries-requires
 same_entries-requires c =
-    lists_there _ _ _ _ c.requires.0 _ _ c.requires.1 c.requires.2 _ _ c.list_length-size.ensures.0
-    c.list_length.ensures.0 c.if-size-list_length.false _ _ c.list_offset-from_a.ensures.0
-    c.list_offset-from_b.ensures.0
+    lists_there _ c.args.pool.now.sound _ _ c.requires.0 c.requires.1 _ _ c.list-size.ensures.0 c.list.ensures.0 c.if-size-list.false _ _
+    c.list-from_a.ensures.0 c.list-from_b.ensures.0
 
 pub returns : goal.returns
 returns c =
-    lists_are _ _ _ _ c.requires.0 _ _ c.requires.1 c.requires.2 _ _ c.list_length-size.ensures.0
-    c.list_length.ensures.0 c.if-size-list_length.false _ _ c.list_offset-from_a.ensures.0
-    c.list_offset-from_b.ensures.0 _ c.same_entries.ensures
+    lists_are _ c.args.pool.now.sound _ _ c.requires.0 c.requires.1 _ _ c.list-size.ensures.0 c.list.ensures.0 c.if-size-list.false _ _
+    c.list-from_a.ensures.0 c.list-from_b.ensures.0 _ c.same_entries.ensures

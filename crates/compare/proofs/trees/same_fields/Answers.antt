@@ -1,39 +1,34 @@
-use mathlib.Core.Path.{refl}
+use Rattle.std.proofs.Common.{refl, arith}
 use Rattle.compare.proofs.EqualLaws.{say_var, say_const, say_app, say_sort, say_named, say_literal, sort_levels, literal_strings}
 use Rattle.compare.proofs.trees.same_fields.Goals as goal
 
-pub returns-then-kind-eq-EXPR_VAR : goal.returns-then-kind-eq-EXPR_VAR
-returns-then-kind-eq-EXPR_VAR c =
-    say_var _ c.args.d c.args.c _ _ c.args.kind _ c.if-kind-eq-EXPR_VAR.true c.same_var.ensures
-
-pub returns-then-kind-eq-EXPR_CONST : goal.returns-then-kind-eq-EXPR_CONST
-returns-then-kind-eq-EXPR_CONST c =
-    say_const _ c.args.d c.args.c _ _ c.args.kind _ c.if-kind-eq-EXPR_CONST.true c.same_const.ensures
-
-pub returns-then-kind-eq-EXPR_APP : goal.returns-then-kind-eq-EXPR_APP
-returns-then-kind-eq-EXPR_APP c =
-    say_app _ c.args.d c.args.c _ _ c.args.kind _ c.if-kind-eq-EXPR_APP.true refl
+pub returns-in-0 : goal.returns-in-0
+returns-in-0 c = say_var _ c.args.d c.args.c _ _ c.args.kind _ c.in-0.is c.same_var.ensures
 
 pub same_level-requires : goal.same_level-requires
 same_level-requires c =
-    sort_levels _ _ _ _ _ _ _ c.requires _ _ c.sort_level-level_a.ensures.0 c.sort_level-level_b.ensures.0 c.if-kind-eq-EXPR_SORT.true
+    sort_levels _ c.args.pool.now.sound _ _ _ c.requires _ _ c.expr-level_a.ensures.0 c.expr-level_b.ensures.0 c.in-1.is
 
-pub returns-then-kind-eq-EXPR_SORT : goal.returns-then-kind-eq-EXPR_SORT
-returns-then-kind-eq-EXPR_SORT c =
-    say_sort _ c.args.d c.args.c _ _ c.args.kind _ _ _ c.sort_level-level_a.ensures.0 c.sort_level-level_b.ensures.0 c.if-kind-eq-EXPR_SORT.true
-    c.same_level.ensures
+pub returns-in-1 : goal.returns-in-1
+returns-in-1 c =
+    say_sort _ c.args.d c.args.c _ _ c.args.kind _ _ _ c.expr-level_a.ensures.0 c.expr-level_b.ensures.0 c.in-1.is c.same_level.ensures
 
-pub returns-then-kind-lt-EXPR_NAT : goal.returns-then-kind-lt-EXPR_NAT
-returns-then-kind-lt-EXPR_NAT c =
-    say_named _ c.args.d c.args.c _ _ c.args.kind _ c.if-kind-eq-EXPR_VAR.false c.if-kind-eq-EXPR_SORT.false c.if-kind-eq-EXPR_CONST.false
-    c.if-kind-eq-EXPR_APP.false c.if-kind-lt-EXPR_NAT.true
-    c.same_named.ensures
+pub returns-in-2 : goal.returns-in-2
+returns-in-2 c = say_const _ c.args.d c.args.c _ _ c.args.kind _ c.in-2.is c.same_const.ensures
+
+pub returns-in-3 : goal.returns-in-3
+returns-in-3 c = say_app _ c.args.d c.args.c _ _ c.args.kind _ c.in-3.is refl
+
+pub returns-in_default : goal.returns-in_default
+returns-in_default c =
+    say_named _ c.args.d c.args.c _ _ c.args.kind _ (λ e. omega arith) (λ e. omega arith) (λ e. omega arith) (λ e. omega arith)
+    c.if-kind-lt-EXPR_NAT.true c.same_named.ensures
 
 pub same_string-requires : goal.same_string-requires
 same_string-requires c =
-    literal_strings _ _ _ _ _ _ _ c.requires _ _ c.literal_string-string_a.ensures.0 c.literal_string-string_b.ensures.0 c.if-kind-lt-EXPR_NAT.false
+    literal_strings _ c.args.pool.now.sound _ _ _ c.requires _ _ c.expr-string_a.ensures.0 c.expr-string_b.ensures.0 c.if-kind-lt-EXPR_NAT.false
 
-pub returns : goal.returns
-returns c =
-    say_literal _ c.args.d c.args.c _ _ c.args.kind _ c.if-kind-eq-EXPR_VAR.false c.if-kind-eq-EXPR_SORT.false c.if-kind-eq-EXPR_CONST.false c.if-kind-eq-EXPR_APP.false _ _
-    c.literal_string-string_a.ensures.0 c.literal_string-string_b.ensures.0 c.if-kind-lt-EXPR_NAT.false c.same_string.ensures
+pub returns-in_default-2 : goal.returns-in_default-2
+returns-in_default-2 c =
+    say_literal _ c.args.d c.args.c _ _ c.args.kind _ (λ e. omega arith) (λ e. omega arith) (λ e. omega arith) (λ e. omega arith) _ _
+    c.expr-string_a.ensures.0 c.expr-string_b.ensures.0 c.if-kind-lt-EXPR_NAT.false c.same_string.ensures

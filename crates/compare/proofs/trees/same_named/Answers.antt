@@ -3,4 +3,4 @@ use Rattle.compare.proofs.trees.same_named.Goals as goal
 
 pub same_name-requires : goal.same_name-requires
 same_name-requires c =
-    named_names _ _ _ _ _ _ _ c.requires.0 _ _ c.expr_word-name_a.ensures.0 c.expr_word-name_b.ensures.0 c.requires.1 c.requires.2
+    named_names _ c.args.pool.now.sound _ _ _ c.requires.0 _ _ c.expr-name_a.ensures.0 c.expr-name_b.ensures.0 c.requires.1 c.requires.2

@@ -1,17 +1,15 @@
-use mathlib.Core.Path.{◌∙◌}
+use Rattle.document.proofs.Leaving.{leaves_as, leaves_after}
+use Rattle.utf8.specs.Quoted.{bytes, encode}
 use Rattle.declarations.proofs.DeclarLaws.{def_colon, def_binders}
 use Rattle.declarations.proofs.declars.def_start.Goals as goal
 
 pub returns-then-count-eq0 : goal.returns-then-count-eq0
-returns-then-count-eq0 c =
-    c.put_word.ensures ∙ def_colon _ _ _ _ _ _ c.if-count-eq0.true
+unfolding bytes encode
+returns-then-count-eq0 c = leaves_as c.put_word.ensures (def_colon _ _ _ _ _ _ c.if-count-eq0.true)
 
 pub returns : goal.returns
+unfolding bytes encode
 returns c =
-    rw (
-      c.join_word.ensures,
-      c.join_word-s.ensures,
-      c.put_nest-s.ensures,
-      c.put_group-s.ensures,
-      c.telescope-s.ensures,
-    ) (def_binders _ _ _ _ _ _ c.if-count-eq0.false)
+    let nested = leaves_after (leaves_after c.telescope.ensures c.put_group.ensures) c.put_nest.ensures in
+    leaves_as (leaves_after (leaves_after nested c.join_word.ensures) c.join_word-2.ensures)
+    (def_binders _ _ _ _ _ _ c.if-count-eq0.false)

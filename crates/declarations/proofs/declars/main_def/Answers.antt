@@ -1,38 +1,37 @@
+use Rattle.document.proofs.Leaving.{leaves_as, leaves_after}
 use mathlib.Core.Path.{sym, ap, ◌∙◌}
 use native.Mathlib.Omega.{arith}
-use borrow.Author.Tests.{ne_eqb, eq-eqb}
-use lib.Dec.{eqb}
-use Rattle.document.specs.Sink.{State, sink_of, put_names}
+use Rattle.std.specs.Prelude.{is_none, not}
+use Rattle.document.specs.Sink.{State, written_of, put_names}
 use Rattle.pretty_printer.proofs.CallLaws.{names_fit}
 use Rattle.declarations.proofs.DeclarLaws.{declared_row, def_stops, def_goes_on}
 use Rattle.declarations.proofs.declars.main_def.Goals as goal
 
 pub chain_length-length-requires : goal.chain_length-length-requires
 chain_length-length-requires c =
-    let row = declared_row c.requires.0 in (c.requires.0.pool, omega (arith, row.type, c.declar_type-type_row.ensures.0))
+    let row = declared_row c.args.p.now.pool.sound c.requires.0 in omega (arith, row.type, c.declar-type_row.ensures.0)
 
-pub returns-then-s-ne0 : goal.returns-then-s-ne0
-returns-then-s-ne0 c =
-    let e = c.put_names-s.ensures ∙ ap (put_names _ _) c.pp_declar_head-s.ensures in e
-    ∙ def_stops c.requires.0 _ _ _ c.declar_type-type_row.ensures.0 c.chain_length-length.ensures.0 _ (ap (λ
-    (st : State). eqb (sink_of st).stop 0) (sym e) ∙ ne_eqb _ 0 c.if-s-ne0.true)
+pub returns-then-is_stopped : goal.returns-then-is_stopped
+returns-then-is_stopped c =
+    let named = leaves_after c.pp_declar_head.ensures c.put_names.ensures in
+    leaves_as named
+    (def_stops c.args.p.now.pool.sound c.requires.0 _ _ _ c.declar-type_row.ensures.0 c.chain_length-length.ensures.0 _
+    (ap (λ (st : State). is_none (written_of st).stop) (sym named.is) ∙ ap not (sym c.is_stopped.ensures ∙ c.if-is_stopped.true)))
 
 pub chain_stack-k-requires : goal.chain_stack-k-requires
 chain_stack-k-requires c =
-    let fits = names_fit _ _ _ (ap (λ (st : State). eqb (sink_of st).stop 0) (sym c.put_names-s.ensures) ∙ eq-eqb _ 0 c.if-s-ne0.false) in
-    let row = declared_row c.requires.0 in (
-      c.requires.0.pool,
-      omega (arith, row.type, c.declar_type-type_row.ensures.0),
-      omega
-          (arith, fits, c.chain_length-length.ensures.0),
-    )
+    let going = ap not (sym c.is_stopped.ensures ∙ c.if-is_stopped.false) in
+    let fits = names_fit _ _ _ (ap (λ (st : State). is_none (written_of st).stop) (sym c.put_names.ensures.is) ∙ going) in
+    let row = declared_row c.args.p.now.pool.sound c.requires.0 in
+    (omega (arith, row.type, c.declar-type_row.ensures.0), omega (arith, fits, c.chain_length-length.ensures.0))
 
 pub def_parts-requires : goal.def_parts-requires
 def_parts-requires c =
-    let row = declared_row c.requires.0 in (c.chain_stack-k.ensures, omega (arith, row.value c.requires.1, c.declar_value-value.ensures.0))
+    let row = declared_row c.args.p.now.pool.sound c.requires.0 in (c.chain_stack-k.ensures, omega (arith, row.value c.requires.1, c.declar-value.ensures.0))
 
 pub returns : goal.returns
 returns c =
-    rw (c.def_parts.ensures, c.put_names-s.ensures, c.pp_declar_head-s.ensures)
-    (def_goes_on c.requires.0 _ _ _ c.declar_type-type_row.ensures.0 c.chain_length-length.ensures.0 _ _ _
-    c.declar_value-value.ensures.0 c.chain_stack-k.ensures)
+    let named = leaves_after c.pp_declar_head.ensures c.put_names.ensures in
+    leaves_as (leaves_after named c.def_parts.ensures)
+    (def_goes_on c.args.p.now.pool.sound c.requires.0 _ _ _ c.declar-type_row.ensures.0 c.chain_length-length.ensures.0 _ _ _ c.declar-value.ensures.0
+    c.chain_stack-k.ensures)

@@ -1,19 +1,19 @@
 use Rattle.declarations.proofs.TakenLaws.{taking_start, taking_falls, taking_next, taking_done}
 use Rattle.declarations.proofs.declars.taken.Goals as goal
 
-pub loop-t-init : goal.loop-t-init
-loop-t-init c =
-    taking_start _ _ _ c.requires.1 c.requires.2
+pub loop-n-init : goal.loop-n-init
+loop-n-init c =
+    taking_start _ _ _ c.requires.0 c.requires.1
 
-pub loop-t-smaller : goal.loop-t-smaller
-loop-t-smaller c =
-    taking_falls _ c.requires.0.ready.sound _ _ _ _ _ c.loop-t.invariant _ c.can_take.ensures c.loop-t-test.true _ c.binder_body-at.ensures.0
+pub loop-n-smaller : goal.loop-n-smaller
+loop-n-smaller c =
+    taking_falls _ c.args.p.now.pool.sound _ _ _ _ _ c.loop-n.invariant _ c.can_take.ensures c.loop-n-test.true _ c.expr-at.ensures.0
 
-pub loop-t-preserved : goal.loop-t-preserved
-loop-t-preserved c =
-    taking_next _ c.requires.0.ready.sound _ _ _ _ _ c.loop-t.invariant _ c.can_take.ensures
-    c.loop-t-test.true _ _ c.binder_body-at.ensures.0 c.binder_body-opened.ensures.0
+pub loop-n-preserved : goal.loop-n-preserved
+loop-n-preserved c =
+    taking_next _ c.args.p.now.pool.sound _ _ _ _ _ c.loop-n.invariant _ c.can_take.ensures
+    c.loop-n-test.true _ _ c.expr-at.ensures.0 c.expr-opened.ensures.0
 
 pub returns : goal.returns
 returns c =
-    taking_done _ c.requires.0.ready.sound _ _ _ _ _ c.loop-t.invariant _ c.can_take.ensures c.loop-t-test.false
+    taking_done _ c.args.p.now.pool.sound _ _ _ _ _ c.loop-n.invariant _ c.can_take.ensures c.loop-n-test.false

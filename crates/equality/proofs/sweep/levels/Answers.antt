@@ -1,24 +1,23 @@
+use Rattle.std.proofs.Common.{rules, ◌≡◌, true}
+use Rattle.std.specs.Prelude.{Some}
 use native.Mathlib.Omega.{arith}
-use Rattle.pool.specs.Areas.{over}
-use mathlib.Core.Path.{◌∙◌}
+use Rattle.pool.specs.Views.{lent}
 use Rattle.equality.specs.Sweep.{Owed}
-use Rattle.equality.proofs.SweepLaws.{goes_on, two_down, two_up}
+use Rattle.equality.proofs.SweepLaws.{two_down, two_up}
 use Rattle.equality.proofs.sweep.levels.Goals as goal
 
-pub loop-t-preserved : goal.loop-t-preserved
-loop-t-preserved c = (
-  omega (arith, goes_on c.loop-t.c c.args.depth c.highest.result c.both.result c.both.ensures c.loop-t-test.true),
-  c.lifted_rows-w.auto.next ∙ c.lifted_rows-v.auto.cur ∙ c.loop-t.invariant.1,
-  c.lifted_rows-w.auto.cur ∙ c.lifted_rows-v.auto.next ∙ c.loop-t.invariant.2,
-  c.lifted_rows-w.auto.owed ∙ c.lifted_rows-v.auto.owed ∙ c.loop-t.invariant.3,
-  two_down (over c.args.bytes.now c.args.names.now c.args.words.now) c.args.d
-      c.loop-t.c (Owed (over c.args.bytes.now c.args.names.now c.args.words.now) c.args.d 0 c.args.cur.now c.args.next.now
-      c.args.owed.now) c.loop-t.cur c.loop-t.next c.loop-t.owed c.loop-t.invariant.4 c.loop-t.invariant.5 _ _ _ _
-      c.lifted_rows-v.ensures c.if-v-ne1.false _ _ _ _ c.lifted_rows-w.ensures c.if-w-ne1.false,
-  two_up (over c.args.bytes.now
-      c.args.names.now c.args.words.now) c.args.d c.loop-t.c (Owed (over c.args.bytes.now c.args.names.now c.args.words.now)
-      c.args.d 0 c.args.cur.now c.args.next.now c.args.owed.now) c.loop-t.cur c.loop-t.next c.loop-t.owed
-      c.loop-t.invariant.4 c.loop-t.invariant.5 _ _ _ _ c.lifted_rows-v.ensures c.if-v-ne1.false _ _ _ _ c.lifted_rows-w.ensures
-      c.if-w-ne1.false,
-  c.lifted_rows-w.ensures.clear c.if-w-ne1.false,
-)
+pub loop-c-preserved : goal.loop-c-preserved
+loop-c-preserved c =
+    let one : c.lifted_rows-level.result ≡ Some true = search rules in
+    let two : c.lifted_rows-deeper.result ≡ Some true = search rules in
+    let p = lent c.args.pool.now in
+    let inv = c.loop-c.invariant in
+    let start = Owed p c.args.d 0 c.args.cur.now c.args.next.now c.args.owed.now in
+    record {
+      in_range = omega arith;
+      down = two_down p c.args.d c.loop-c.c start c.loop-c.cur c.loop-c.next c.loop-c.owed inv.down inv.up _ _ _ _ c.lifted_rows-level.ensures one _ _ _ _
+          c.lifted_rows-deeper.ensures two;
+      up = two_up p c.args.d c.loop-c.c start c.loop-c.cur c.loop-c.next c.loop-c.owed inv.down inv.up _ _ _ _ c.lifted_rows-level.ensures one _ _ _ _
+          c.lifted_rows-deeper.ensures two;
+      next_clear = c.lifted_rows-deeper.ensures.clear two;
+    }

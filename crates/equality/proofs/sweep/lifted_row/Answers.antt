@@ -1,14 +1,11 @@
-use Rattle.pool.specs.Areas.{over}
-use Rattle.equality.proofs.SweepLaws.{row_quick, row_parts}
+use Rattle.equality.specs.Sweep.{Moved}
+use Rattle.equality.proofs.SweepLaws.{where_room, unknown, row_quick, row_parts}
 use Rattle.equality.proofs.sweep.lifted_row.Goals as goal
 
-pub returns-then-quick-lt2 : goal.returns-then-quick-lt2
-returns-then-quick-lt2 c =
-    row_quick (over c.args.bytes.now c.args.names.now c.args.words.now) c.args.d c.args.c c.args.cur.now c.args.next.now
-    c.args.owed.now _ c.args.a _ c.take-m.ensures.0 c.take-m.ensures.1 c.if-m-eq0.false _ c.agree-quick.ensures
+pub returns-in_default-agree : goal.returns-in_default-agree
+returns-in_default-agree c = row_quick _ _ _ _ _ _ _ _ c.take.ensures.1 _ c.in-Some.ensures.0 _ c.agree.ensures
 
-pub returns : goal.returns
-returns c =
-    row_parts (over c.args.bytes.now c.args.names.now c.args.words.now) c.args.d c.args.c c.args.cur.now c.args.next.now
-    c.args.owed.now _ c.args.a _ c.take-m.ensures.0 c.take-m.ensures.1 c.if-m-eq0.false _ _ c.agree-quick.ensures c.if-quick-lt2.false _ _ _
-    c.put_parts.ensures
+pub returns-in-None : goal.returns-in-None
+returns-in-None c =
+    where_room (Moved _ _) _ _ c.then_some.ensures (unknown _ _) (λ room.
+    row_parts _ _ _ _ _ _ _ _ c.take.ensures.1 _ c.in-Some.ensures.0 _ c.agree.ensures c.in-None.is _ _ _ (c.put_parts.ensures room))

@@ -1,7 +1,11 @@
-use Rattle.pool.specs.Rules.{expr_ok}
+use Rattle.expr_check.proofs.Decide.{nothing_asked, so_asked}
+use Rattle.pool.specs.Views.{read}
+use mathlib.Core.Path.{◌∙◌}
 use Rattle.expr_check.proofs.exprs.expr_ok.Goals as goal
 
-pub returns : goal.returns
-unfolding expr_ok
-returns c =
-    λ bs k. rw (c.both-2.ensures, c.both.ensures, c.both-last.ensures, c.ask-want.ensures bs k, c.fields_at-f.ensures.0)
+pub returns-in-Some-clause-marked : goal.returns-in-Some-clause-marked
+returns-in-Some-clause-marked c =
+    λ k. c.as_asked.ensures ∙ so_asked (read c.args.pool.now) c.args.r c.in-Some.want (c.in-Some.ensures.marked k)
+
+pub returns-in-None-clause-marked : goal.returns-in-None-clause-marked
+returns-in-None-clause-marked c = λ k. nothing_asked (read c.args.pool.now) c.args.r (c.in-None.ensures.marked k)

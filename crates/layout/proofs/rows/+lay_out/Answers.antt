@@ -1,96 +1,73 @@
 use Prim.Native.Nat.{suc}
 use native.Mathlib.Omega.{arith}
-use mathlib.Core.Path.{refl, sym, ◌∙◌}
+use mathlib.Core.Path.{sym, ◌∙◌}
 use Rattle.document.proofs.Words.{kind_rest}
-use Rattle.layout.proofs.Cases.{text_asks, laid_text, laid_break, left_asks, next_asks, room_left, child_below}
-use Rattle.layout.proofs.Going.{going_join, going_nest, going_flat, going_group}
+use Rattle.layout.proofs.Cases.{text_asks, break_asks, left_asks, next_asks, room_left, child_below}
+use Rattle.layout.proofs.Going.{room_now, going_last, lays_text, lays_break, on_join, on_nest, on_flat, on_group}
 use Rattle.layout.proofs.rows.+lay_out.Goals as goal
+use Rattle.layout.proofs.rows.+lay_out.Goals.{in-1, in-3, in_default+then-flat, in_default+else-flat}
 
 pub lay_text-requires : goal.lay_text-requires
-lay_text-requires t c = text_asks c.loop-listing.invariant.room (sym c.word_in-kind.ensures.0 ∙ c.if-kind-eq0.true)
+lay_text-requires t c = text_asks (room_now c.row.invariant) (sym c.word_in.ensures.0 ∙ c.in-0.is)
 
-pub returns-then-kind-eq0 : goal.returns-then-kind-eq0
-returns-then-kind-eq0 t c =
-    let l = c.loop-listing in
-    l.invariant.back _ _ (laid_text l.invariant.room _ _ _ _ (sym c.word_in-kind.ensures.0 ∙ c.if-kind-eq0.true) c.lay_text.ensures)
+pub returns-in-0 : goal.returns-in-0
+returns-in-0 t c =
+    let g = c.row.invariant in
+    going_last g (lays_text (room_now g) _ (sym c.word_in.ensures.0 ∙ c.in-0.is) c.lay_text.ensures)
 
-pub returns-then-kind-eq2 : goal.returns-then-kind-eq2
-returns-then-kind-eq2 t c =
-    let l = c.loop-listing in
-    l.invariant.back _ _ (laid_break l.invariant.room _ _ _ _ (sym c.word_in-kind.ensures.0 ∙ c.if-kind-eq2.true) c.lay_break.ensures)
+pub lay_break-requires : goal.lay_break-requires
+lay_break-requires t c = break_asks (room_now c.row.invariant) (sym c.word_in.ensures.0 ∙ c.in-2.is)
 
-pub left_of-requires : goal.left_of-requires
-left_of-requires t c =
-    left_asks c.loop-listing.invariant.room (sym c.word_in-kind.ensures.0 ∙ c.if-kind-eq1.true)
+pub returns-in-2 : goal.returns-in-2
+returns-in-2 t c =
+    let g = c.row.invariant in
+    going_last g (lays_break (room_now g) _ (sym c.word_in.ensures.0 ∙ c.in-2.is) c.lay_break.ensures)
+
+pub left_of-left-requires : goal.left_of-left-requires
+left_of-left-requires t c = left_asks (room_now c.row.invariant) (sym c.word_in.ensures.0 ∙ c.in-1.is)
 
 pub next_of_left-requires : goal.next_of_left-requires
-next_of_left-requires t c =
-    next_asks c.loop-listing.invariant.room (sym c.word_in-kind.ensures.0 ∙ c.if-kind-eq1.true)
+next_of_left-requires t c = next_asks (room_now c.row.invariant) (sym c.word_in.ensures.0 ∙ c.in-1.is)
 
-pub lay_out-c-requires : goal.lay_out-c-requires
-lay_out-c-requires t c =
-    let l = c.loop-listing in
-    let e = (sym c.word_in-kind.ensures.0 ∙ c.if-kind-eq1.true) in
-    let p = (next_asks l.invariant.room e).0.0 in
-    let i = c.left_of.ensures in
-    let d = l.invariant.down in
-    (omega arith, room_left l.invariant.room _ _ e i c.next_of_left.ensures.1)
+pub lay_out-requires : goal.lay_out-requires
+lay_out-requires t c =
+    let g = c.row.invariant in
+    let join = sym c.word_in.ensures.0 ∙ c.in-1.is in
+    let some = (left_asks (room_now g) join).0 in
+    let left = c.left_of-left.ensures in
+    let down = g.going.down in
+    (omega arith, room_left (room_now g) _ _ join left c.next_of_left.ensures.1)
 
 pub overflow_sub-r : goal.overflow_sub-r
 overflow_sub-r t c =
-    (next_asks c.loop-listing.invariant.room (sym c.word_in-kind.ensures.0 ∙ c.if-kind-eq1.true)).0.0
+    let room = room_now c.row.invariant in
+    let kind = sym c.word_in.ensures.0 in
+    elim c.match-word_in.branch [
+      | in-1 w ↦ (left_asks room (kind ∙ w.in-1.is)).0
+      | in-3 w ↦ child_below room 0 (kind ∙ w.in-3.is)
+      | in_default+then-flat w ↦
+          let group = kind_rest _ (omega arith) in
+          child_below room (suc group.0) (kind ∙ group.1)
+      | in_default+else-flat w ↦
+          let group = kind_rest _ (omega arith) in
+          child_below room (suc group.0) (kind ∙ group.1)
+    ]
 
-pub loop-listing-smaller-then-kind-eq1 : goal.loop-listing-smaller-then-kind-eq1
-loop-listing-smaller-then-kind-eq1 t c =
-    let p = (next_asks c.loop-listing.invariant.room (sym c.word_in-kind.ensures.0 ∙ c.if-kind-eq1.true)).0.0 in omega arith
+pub row-smaller : goal.row-smaller
+row-smaller t c = let some = overflow_sub-r t c in omega arith
 
-pub loop-listing-preserved-then-kind-eq1 : goal.loop-listing-preserved-then-kind-eq1
-loop-listing-preserved-then-kind-eq1 t c =
-    let lay-out = c.lay_out-c in
-    going_join c.loop-listing.invariant _ _ _ _ (sym c.word_in-kind.ensures.0 ∙ c.if-kind-eq1.true) c.left_of.ensures
-    c.next_of_left.ensures.0 lay-out.auto.listing lay-out.ensures
-
-pub overflow_sub-r-then-kind-eq3 : goal.overflow_sub-r-then-kind-eq3
-overflow_sub-r-then-kind-eq3 t c =
-    child_below c.loop-listing.invariant.room 0 (sym c.word_in-kind.ensures.0 ∙ c.if-kind-eq3.true)
-
-pub loop-listing-smaller-then-kind-eq3 : goal.loop-listing-smaller-then-kind-eq3
-loop-listing-smaller-then-kind-eq3 t c =
-    let p = child_below c.loop-listing.invariant.room 0 (sym c.word_in-kind.ensures.0 ∙ c.if-kind-eq3.true) in omega arith
-
-pub loop-listing-preserved-then-kind-eq3 : goal.loop-listing-preserved-then-kind-eq3
-loop-listing-preserved-then-kind-eq3 t c =
-    going_nest c.loop-listing.invariant _ (sym c.word_in-kind.ensures.0 ∙ c.if-kind-eq3.true) c.word_in-nest.ensures.0
-
-pub overflow_sub-r-then-flat : goal.overflow_sub-r-then-flat
-overflow_sub-r-then-flat t c =
-    let k = kind_rest _ c.if-kind-eq0.false c.if-kind-eq1.false c.if-kind-eq2.false c.if-kind-eq3.false in
-    child_below c.loop-listing.invariant.room (suc k.0) (sym c.word_in-kind.ensures.0 ∙ k.1)
-
-pub loop-listing-smaller-then-flat : goal.loop-listing-smaller-then-flat
-loop-listing-smaller-then-flat t c =
-    let k = kind_rest _ c.if-kind-eq0.false c.if-kind-eq1.false c.if-kind-eq2.false c.if-kind-eq3.false in
-    let p = child_below c.loop-listing.invariant.room (suc k.0) (sym c.word_in-kind.ensures.0 ∙ k.1) in
-    omega arith
-
-pub loop-listing-preserved-then-flat : goal.loop-listing-preserved-then-flat
-loop-listing-preserved-then-flat t c =
-    let k = kind_rest _ c.if-kind-eq0.false c.if-kind-eq1.false c.if-kind-eq2.false c.if-kind-eq3.false in
-    going_flat c.loop-listing.invariant k.0 (sym c.word_in-kind.ensures.0 ∙ k.1) c.if-flat.true
-
-pub overflow_sub-r-else-flat : goal.overflow_sub-r-else-flat
-overflow_sub-r-else-flat t c =
-    let k = kind_rest _ c.if-kind-eq0.false c.if-kind-eq1.false c.if-kind-eq2.false c.if-kind-eq3.false in
-    child_below c.loop-listing.invariant.room (suc k.0) (sym c.word_in-kind.ensures.0 ∙ k.1)
-
-pub loop-listing-smaller : goal.loop-listing-smaller
-loop-listing-smaller t c =
-    let k = kind_rest _ c.if-kind-eq0.false c.if-kind-eq1.false c.if-kind-eq2.false c.if-kind-eq3.false in
-    let p = child_below c.loop-listing.invariant.room (suc k.0) (sym c.word_in-kind.ensures.0 ∙ k.1) in
-    omega arith
-
-pub loop-listing-preserved : goal.loop-listing-preserved
-loop-listing-preserved t c =
-    let word-in3 = c.word_in in
-    let k = kind_rest _ c.if-kind-eq0.false c.if-kind-eq1.false c.if-kind-eq2.false c.if-kind-eq3.false in
-    going_group c.loop-listing.invariant k.0 word-in3.result _ _ (sym c.word_in-kind.ensures.0 ∙ k.1) c.if-flat.false word-in3.ensures.0 refl c.tested-c.ensures
+pub row-preserved : goal.row-preserved
+row-preserved t c =
+    let g = c.row.invariant in
+    let kind = sym c.word_in.ensures.0 in
+    elim c.match-word_in.branch [
+      | in-1 w ↦ rw (w.listing-is, w.nest-is, w.flat-is) (on_join g (kind ∙ w.in-1.is) w.left_of-left.ensures w.next_of_left.ensures.0 w.lay_out.ensures)
+      | in-3 w ↦ rw (w.listing-is, w.nest-is, w.flat-is) (on_nest g (kind ∙ w.in-3.is) w.word_in-nest.ensures.0)
+      | in_default+then-flat w ↦
+          let group = kind_rest _ (omega arith) in
+          rw (w.listing-is, w.nest-is, w.flat-is) (on_flat g (kind ∙ group.1) w.if-flat.true)
+      | in_default+else-flat w ↦
+          let group = kind_rest _ (omega arith) in
+          rw (w.listing-is, w.nest-is, w.flat-is)
+          (on_group g (kind ∙ group.1) w.if-flat.false w.word_in-else-flat.ensures.0 w.fits-flat.ensures.0 w.fits-flat.ensures.1)
+    ]

@@ -1,113 +1,76 @@
-use Rattle.levels.proofs.Universes.{level_row, plus_emits, zero_emits, param_below, param_emits, max_kind, max_below, max_emits, plus_is}
+use Rattle.document.proofs.Leaving.{leaves_same, leaves_as, leaves_after}
+use Rattle.pool.specs.Views.{lent}
+use Rattle.pool.proofs.RowUnfolds.{level_row}
+use Rattle.levels.proofs.Universes.{plus_emits, zero_emits, param_below, param_emits, max_kind, max_below, max_emits, plus_is}
 use Rattle.pieces.proofs.Emitting.{emit_stopped}
-use Rattle.document.specs.Sink.State.{state}
-use borrow.Author.Tests.{ne_eqb}
+use Rattle.utf8.specs.Quoted.{bytes, encode}
+use Rattle.std.specs.Prelude.{not}
 use native.Mathlib.Omega.{arith}
-use mathlib.Core.Path.{sym, ◌∙◌}
+use mathlib.Core.Path.{sym, ap, ◌∙◌}
 use Rattle.levels.proofs.levels.+levels.Goals as goal
 
 pub pp_base-returns-then-kind-eq-LEVEL_ZERO : goal.pp_base-returns-then-kind-eq-LEVEL_ZERO
 pp_base-returns-then-kind-eq-LEVEL_ZERO t c =
-    c.put_number.ensures
-    ∙ zero_emits c.args.bytes.now c.args.names.now c.args.words.now c.args.r
-    (level_row c.args.bytes.now c.args.names.now c.args.words.now c.args.t c.requires.0 c.args.r
-    c.requires.1) (sym c.level_kind-kind.ensures.0
-    ∙ c.if-kind-eq-LEVEL_ZERO.true) c.args.outer 0 (state c.args.rows.now c.args.text.now c.args.s) c.requires.2
+    leaves_as c.put_number.ensures
+    (zero_emits (lent c.args.pool.now) c.args.r (level_row _ c.args.pool.now.sound _ c.requires.0) (sym c.level-kind.ensures.0 ∙ c.if-kind-eq-LEVEL_ZERO.true) c.args.outer 0 _ c.requires.1)
 
 pub pp_base-pp_name_safe-requires : goal.pp_base-pp_name_safe-requires
-pp_base-pp_name_safe-requires t c = (
-  c.requires.0,
-  rw c.level_first-name.ensures.0
-      (param_below c.args.bytes.now c.args.names.now c.args.words.now c.args.r
-      (level_row c.args.bytes.now c.args.names.now c.args.words.now c.args.t c.requires.0 c.args.r c.requires.1)
-      (sym c.level_kind-kind.ensures.0
-      ∙ c.if-kind-eq-LEVEL_PARAM.true)),
-)
+pp_base-pp_name_safe-requires t c =
+    rw c.level-name.ensures.0 (param_below (lent c.args.pool.now) c.args.r (level_row _ c.args.pool.now.sound _ c.requires.0) (sym c.level-kind.ensures.0 ∙ c.if-kind-eq-LEVEL_PARAM.true))
 
 pub pp_base-returns-then-kind-eq-LEVEL_PARAM : goal.pp_base-returns-then-kind-eq-LEVEL_PARAM
 pp_base-returns-then-kind-eq-LEVEL_PARAM t c =
-    rw (c.pp_name_safe.ensures, c.level_first-name.ensures.0)
-    (param_emits c.args.bytes.now c.args.names.now c.args.words.now c.args.r
-    (level_row c.args.bytes.now c.args.names.now c.args.words.now c.args.t c.requires.0 c.args.r c.requires.1)
-    (sym c.level_kind-kind.ensures.0 ∙ c.if-kind-eq-LEVEL_PARAM.true) c.args.outer
-    (state c.args.rows.now c.args.text.now c.args.s) c.requires.2)
+    leaves_as c.pp_name_safe.ensures
+    (rw c.level-name.ensures.0
+    (param_emits (lent c.args.pool.now) c.args.r (level_row _ c.args.pool.now.sound _ c.requires.0) (sym c.level-kind.ensures.0 ∙ c.if-kind-eq-LEVEL_PARAM.true) c.args.outer _ c.requires.1))
 
 pub pp_base-pp_max-requires : goal.pp_base-pp_max-requires
 pp_base-pp_max-requires t c =
-    let k = max_kind c.args.bytes.now c.args.names.now c.args.words.now c.args.r
-    (level_row c.args.bytes.now c.args.names.now c.args.words.now c.args.t c.requires.0 c.args.r
-    c.requires.1) (λ e. c.if-kind-eq-LEVEL_ZERO.false (c.level_kind-kind.ensures.0 ∙ e)) c.requires.3
-    (λ e. c.if-kind-eq-LEVEL_PARAM.false (c.level_kind-kind.ensures.0 ∙ e)) in
-    (omega arith, (c.requires.0, c.requires.1, k.0, k.1))
+    let k = max_kind (lent c.args.pool.now) c.args.r (level_row _ c.args.pool.now.sound _ c.requires.0) (λ e. c.if-kind-eq-LEVEL_ZERO.false (c.level-kind.ensures.0 ∙ e)) c.requires.2
+    (λ e. c.if-kind-eq-LEVEL_PARAM.false (c.level-kind.ensures.0 ∙ e)) in
+    (omega arith, (c.requires.0, k.0, k.1))
 
-pub pp_level-returns-then-s-ne0 : goal.pp_level-returns-then-s-ne0
-pp_level-returns-then-s-ne0 t c =
-    sym (emit_stopped _ (state c.args.rows.now c.args.text.now c.args.s) (ne_eqb _ _ c.if-s-ne0.true))
+pub pp_level-returns-then-is_stopped : goal.pp_level-returns-then-is_stopped
+pp_level-returns-then-is_stopped t c =
+    leaves_same (sym (emit_stopped _ _ (ap not (sym c.is_stopped.ensures ∙ c.if-is_stopped.true))))
 
-pub pp_level-returns-then-level_kind-eq-LEVEL_ZERO : goal.pp_level-returns-then-level_kind-eq-LEVEL_ZERO
-pp_level-returns-then-level_kind-eq-LEVEL_ZERO t c =
-    rw (c.put_number.ensures, ← c.level_succs-l.ensures.same)
-    (zero_emits c.args.bytes.now c.args.names.now c.args.words.now c.level_succs-l.result.base
-    (level_row c.args.bytes.now c.args.names.now c.args.words.now c.args.t c.requires.0 c.level_succs-l.result.base (omega
-    (arith, c.level_succs-l.ensures.low, c.requires.1))) (sym c.level_kind.ensures.0 ∙ c.if-level_kind-eq-LEVEL_ZERO.true)
-    c.args.outer c.level_succs-l.result.count (state c.args.rows.now c.args.text.now c.args.s)
-    c.requires.2)
+pub pp_level-returns-then-level-eq-LEVEL_ZERO : goal.pp_level-returns-then-level-eq-LEVEL_ZERO
+pp_level-returns-then-level-eq-LEVEL_ZERO t c =
+    leaves_as c.put_number.ensures
+    (rw (← c.level_succs-l.ensures.same)
+    (zero_emits (lent c.args.pool.now) c.level_succs-l.result.base (level_row _ c.args.pool.now.sound _ (omega (arith, c.level_succs-l.ensures.low, c.requires.0))) (sym c.level.ensures.0 ∙ c.if-level-eq-LEVEL_ZERO.true) c.args.outer c.level_succs-l.result.count _ c.requires.1))
 
 pub pp_level-returns : goal.pp_level-returns
 pp_level-returns t c =
-    rw (
-      c.put_plus.ensures,
+    leaves_as c.put_plus.ensures
+    (rw (
       ← c.level_succs-l.ensures.same,
-      plus_is c.args.bytes.now c.args.names.now
-          c.args.words.now c.level_succs-l.result.base
-          (level_row c.args.bytes.now c.args.names.now c.args.words.now c.args.t c.requires.0 c.level_succs-l.result.base (omega
-          (arith, c.level_succs-l.ensures.low, c.requires.1))) (λ e. c.if-level_kind-eq-LEVEL_ZERO.false (c.level_kind.ensures.0 ∙ e))
-          c.level_succs-l.ensures.last c.level_succs-l.result.count,
-    )
+      plus_is (lent c.args.pool.now) c.level_succs-l.result.base (level_row _ c.args.pool.now.sound _ (omega (arith, c.level_succs-l.ensures.low, c.requires.0))) (λ e. c.if-level-eq-LEVEL_ZERO.false (c.level.ensures.0 ∙ e)) c.level_succs-l.ensures.last c.level_succs-l.result.count,
+    ))
 
-pub pp_max-pp_level-s-requires : goal.pp_max-pp_level-s-requires
-pp_max-pp_level-s-requires t c =
-    let b = max_below c.args.bytes.now c.args.names.now c.args.words.now c.args.r
-    (level_row c.args.bytes.now c.args.names.now c.args.words.now c.args.t c.requires.0 c.args.r
-    c.requires.1) c.requires.2 c.requires.3 in
-    (omega (arith, c.level_first-left.ensures.0, b.0), (c.requires.0, omega (arith, c.level_first-left.ensures.0, b.0, c.requires.1), omega arith))
+pub pp_max-pp_level-requires : goal.pp_max-pp_level-requires
+pp_max-pp_level-requires t c =
+    let b = max_below (lent c.args.pool.now) c.args.r (level_row _ c.args.pool.now.sound _ c.requires.0) c.requires.1 c.requires.2 in
+    (omega (arith, c.level-left.ensures.0, b.0), (omega (arith, c.level-left.ensures.0, b.0, c.requires.0), omega arith))
 
-pub pp_max-pp_level-s-requires-2 : goal.pp_max-pp_level-s-requires-2
-pp_max-pp_level-s-requires-2 t c =
-    let b = max_below c.args.bytes.now c.args.names.now c.args.words.now c.args.r
-    (level_row c.args.bytes.now c.args.names.now c.args.words.now c.args.t c.requires.0 c.args.r
-    c.requires.1) c.requires.2 c.requires.3 in
-    (omega (arith, c.level_second-right.ensures.0, b.1), (c.requires.0, omega (arith, c.level_second-right.ensures.0, b.1, c.requires.1), omega arith))
+pub pp_max-pp_level-requires-2 : goal.pp_max-pp_level-requires-2
+pp_max-pp_level-requires-2 t c =
+    let b = max_below (lent c.args.pool.now) c.args.r (level_row _ c.args.pool.now.sound _ c.requires.0) c.requires.1 c.requires.2 in
+    (omega (arith, c.level-right.ensures.0, b.1), (omega (arith, c.level-right.ensures.0, b.1, c.requires.0), omega arith))
 
 pub pp_max-returns : goal.pp_max-returns
+unfolding bytes encode
 pp_max-returns t c =
-    rw (
-      c.close_paren.ensures,
-      c.put_join-s-2.ensures,
-      c.pp_level-s-2.ensures,
-      c.join_line-s.ensures,
-      c.put_join-s.ensures,
-      c.pp_level-s.ensures,
-      c.join_word-s.ensures,
-      c.put_word-s.ensures,
-      c.open_paren-s.ensures,
-      c.level_kind-kind.ensures.0,
-      c.level_first-left.ensures.0,
-      c.level_second-right.ensures.0,
-    )
-    (max_emits c.args.bytes.now c.args.names.now c.args.words.now c.args.r
-    (level_row c.args.bytes.now c.args.names.now c.args.words.now c.args.t c.requires.0 c.args.r c.requires.1)
-    c.requires.2 c.requires.3 c.args.outer (state c.args.rows.now c.args.text.now c.args.s))
+    let opened = leaves_after (leaves_after c.open_paren.ensures c.put_word.ensures) c.join_word.ensures in
+    let left = leaves_after (leaves_after (leaves_after opened c.pp_level.ensures) c.put_join.ensures) c.join_line.ensures in
+    let right = leaves_after (leaves_after left c.pp_level-2.ensures) c.put_join-2.ensures in
+    leaves_as (leaves_after right c.close_paren.ensures)
+    (rw (c.max_word.ensures, c.level-kind.ensures.0, c.level-left.ensures.0, c.level-right.ensures.0)
+    (max_emits (lent c.args.pool.now) c.args.r (level_row _ c.args.pool.now.sound _ c.requires.0) c.requires.1 c.requires.2 c.args.outer _))
 
 pub put_plus-returns : goal.put_plus-returns
+unfolding bytes encode
 put_plus-returns t c =
-    rw (
-      c.close_paren.ensures,
-      c.put_join-s.ensures,
-      c.put_number-s.ensures,
-      c.join_word-s.ensures,
-      c.pp_base-s.ensures,
-      c.open_paren-s.ensures,
-    )
-    (plus_emits c.args.outer _ c.args.count (state c.args.rows.now c.args.text.now c.args.s)
-    c.requires.3)
+    let base = leaves_after (leaves_after c.open_paren.ensures c.pp_base.ensures) c.join_word.ensures in
+    let sum = leaves_after (leaves_after base c.put_number.ensures) c.put_join.ensures in
+    leaves_as (leaves_after sum c.close_paren.ensures) (plus_emits c.args.outer _ c.args.count _ c.requires.2)

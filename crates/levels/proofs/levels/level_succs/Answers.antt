@@ -1,29 +1,19 @@
-use Rattle.levels.proofs.Universes.{level_row, succ_below, succ_on}
+use Rattle.pool.specs.Views.{lent}
+use Rattle.pool.proofs.RowUnfolds.{level_row}
+use Rattle.levels.proofs.Universes.{succ_below, succ_on}
 use native.Mathlib.Omega.{arith}
 use Prim.Native.Nat.{◌<◌}
 use mathlib.Core.Path.{sym, ◌∙◌}
 use Rattle.levels.proofs.levels.level_succs.Goals as goal
 
-pub loop-t-smaller : goal.loop-t-smaller
-loop-t-smaller c =
-    rw c.level_first-at.ensures.0
-    (succ_below c.args.bytes.now c.args.names.now c.args.words.now c.loop-t.at
-    (level_row c.args.bytes.now c.args.names.now c.args.words.now c.args.t c.requires.0 c.loop-t.at c.loop-t.invariant.0)
-    (sym c.level_kind.ensures.0 ∙ c.loop-t-test.true))
+pub loop-at-smaller : goal.loop-at-smaller
+loop-at-smaller c = rw c.level-at.ensures.0 (succ_below (lent c.args.pool.now) c.loop-at.at (level_row _ c.args.pool.now.sound _ c.loop-at.invariant.0) (sym c.level.ensures.0 ∙ c.loop-at-test.true))
 
-pub loop-t-preserved : goal.loop-t-preserved
-loop-t-preserved c =
-    let next : c.level_first-at.result < c.loop-t.at = rw c.level_first-at.ensures.0
-    (succ_below c.args.bytes.now c.args.names.now c.args.words.now c.loop-t.at
-    (level_row c.args.bytes.now c.args.names.now c.args.words.now c.args.t c.requires.0 c.loop-t.at c.loop-t.invariant.0)
-    (sym c.level_kind.ensures.0 ∙ c.loop-t-test.true)) in (
-      omega (arith, c.loop-t.invariant.0),
-      omega (arith, c.loop-t.invariant.1),
-      rw (
-        c.level_first-at.ensures.0,
-        succ_on c.args.bytes.now c.args.names.now c.args.words.now c.loop-t.at
-            (level_row c.args.bytes.now c.args.names.now c.args.words.now c.args.t c.requires.0 c.loop-t.at c.loop-t.invariant.0)
-            (sym c.level_kind.ensures.0
-            ∙ c.loop-t-test.true) c.loop-t.n,
-      ) c.loop-t.invariant.2,
+pub loop-at-preserved : goal.loop-at-preserved
+loop-at-preserved c =
+    let kind = sym c.level.ensures.0 ∙ c.loop-at-test.true in
+    let next : c.level-at.result < c.loop-at.at = rw c.level-at.ensures.0 (succ_below (lent c.args.pool.now) c.loop-at.at (level_row _ c.args.pool.now.sound _ c.loop-at.invariant.0) kind) in (
+      omega (arith, c.loop-at.invariant.0),
+      omega (arith, c.loop-at.invariant.1),
+      rw (c.level-at.ensures.0, succ_on (lent c.args.pool.now) c.loop-at.at (level_row _ c.args.pool.now.sound _ c.loop-at.invariant.0) kind c.loop-at.n) c.loop-at.invariant.2,
     )

@@ -1,27 +1,21 @@
-use Rattle.levels.proofs.Universes.{entry_below, levels_emit}
-use Rattle.document.specs.Sink.State.{state}
+use Rattle.document.proofs.Leaving.{leaves_as, leaves_after}
+use Rattle.utf8.specs.Quoted.{bytes, encode}
+use Rattle.pool.specs.Views.{lent}
+use Rattle.pool.proofs.RowUnfolds.{entry-fits}
+use Rattle.levels.proofs.Universes.{levels_emit}
 use native.Mathlib.Omega.{arith}
 use Rattle.levels.proofs.levels.pp_levels.Goals as goal
 
-pub pp_level-s-requires : goal.pp_level-s-requires
-pp_level-s-requires c = (
-  c.requires.0,
-  rw c.list_entry-first.ensures.0
-      (entry_below c.args.bytes.now c.args.names.now c.args.words.now c.args.t c.requires.0 c.args.from (omega
-      (arith, c.requires.1, c.requires.2))),
+pub pp_level-requires : goal.pp_level-requires
+pp_level-requires c = (
+  rw c.entry-first.ensures.0 (entry-fits (lent c.args.pool.now) c.args.pool.now.sound c.args.from (omega arith)),
   omega arith,
 )
 
 pub returns : goal.returns
+unfolding bytes encode
 returns c =
-    rw (
-      c.put_group.ensures,
-      c.join_word-s.ensures,
-      c.put_join-s.ensures,
-      c.put_next_levels-s.ensures,
-      c.pp_level-s.ensures,
-      c.put_word-s.ensures,
-      c.list_entry-first.ensures.0,
-    )
-    (levels_emit c.args.bytes.now c.args.names.now c.args.words.now c.args.from c.args.to
-    (state c.args.rows.now c.args.text.now c.args.s) c.requires.1)
+    let tiled = leaves_after (leaves_after c.put_word.ensures c.pp_level.ensures) c.put_next_levels.ensures in
+    let closed = leaves_after (leaves_after tiled c.put_join.ensures) c.join_word.ensures in
+    leaves_as (leaves_after closed c.put_group.ensures)
+    (rw c.entry-first.ensures.0 (levels_emit (lent c.args.pool.now) c.args.from c.args.to _ c.requires.0))

@@ -1,28 +1,29 @@
-use Rattle.levels.proofs.Universes.{level_row, succ_below, sort_type, sort_sort}
-use Rattle.document.specs.Sink.State.{state}
+use Rattle.document.proofs.Leaving.{leaves_as}
+use Rattle.pool.specs.Views.{lent}
+use Rattle.pool.proofs.RowUnfolds.{level_row}
+use Rattle.levels.proofs.Universes.{succ_below, sort_type, sort_sort}
+use Rattle.document.specs.Sink.{emit}
+use Rattle.pieces.specs.Docs.{quoted}
+use Rattle.utf8.specs.Quoted.{bytes, encode}
+use mathlib.Core.Path.{sym, ◌∙◌}
 use Prim.Native.Nat.{◌<◌}
 use native.Mathlib.Omega.{arith}
-use mathlib.Core.Path.{sym, ◌∙◌}
 use Rattle.levels.proofs.levels.pp_sort.Goals as goal
 
 pub put_sort-requires : goal.put_sort-requires
 put_sort-requires c =
-    let b : c.level_first-below.result < c.args.r = rw c.level_first-below.ensures.0
-    (succ_below c.args.bytes.now c.args.names.now c.args.words.now c.args.r
-    (level_row c.args.bytes.now c.args.names.now c.args.words.now c.args.t c.requires.0 c.args.r c.requires.1)
-    (sym c.level_kind.ensures.0 ∙ c.if-level_kind-eq-LEVEL_SUCC.true)) in
-    (c.requires.0, omega (arith, c.requires.1), omega arith)
+    let b : c.level-below.result < c.args.r =
+    rw c.level-below.ensures.0 (succ_below (lent c.args.pool.now) c.args.r (level_row _ c.args.pool.now.sound _ c.requires) (sym c.level.ensures.0 ∙ c.if-level-eq-LEVEL_SUCC.true)) in
+    omega (arith, c.requires)
 
-pub returns-then-level_kind-eq-LEVEL_SUCC : goal.returns-then-level_kind-eq-LEVEL_SUCC
-returns-then-level_kind-eq-LEVEL_SUCC c =
-    rw (c.put_sort.ensures, c.level_first-below.ensures.0)
-    (sort_type c.args.bytes.now c.args.names.now c.args.words.now c.args.r
-    (level_row c.args.bytes.now c.args.names.now c.args.words.now c.args.t c.requires.0 c.args.r c.requires.1)
-    (sym c.level_kind.ensures.0 ∙ c.if-level_kind-eq-LEVEL_SUCC.true) (state c.args.rows.now c.args.text.now c.args.s))
+pub returns-then-level-eq-LEVEL_SUCC : goal.returns-then-level-eq-LEVEL_SUCC
+unfolding emit quoted bytes encode
+returns-then-level-eq-LEVEL_SUCC c =
+    leaves_as c.put_sort.ensures
+    (rw c.level-below.ensures.0 (sort_type (lent c.args.pool.now) c.args.r (level_row _ c.args.pool.now.sound _ c.requires) (sym c.level.ensures.0 ∙ c.if-level-eq-LEVEL_SUCC.true) _))
 
 pub returns : goal.returns
+unfolding emit quoted bytes encode
 returns c =
-    c.put_sort-2.ensures
-    ∙ sort_sort c.args.bytes.now c.args.names.now c.args.words.now c.args.r (level_row c.args.bytes.now
-    c.args.names.now c.args.words.now c.args.t c.requires.0 c.args.r c.requires.1) (λ e. c.if-level_kind-eq-LEVEL_SUCC.false
-    (c.level_kind.ensures.0 ∙ e)) (state c.args.rows.now c.args.text.now c.args.s)
+    leaves_as c.put_sort-2.ensures
+    (sort_sort (lent c.args.pool.now) c.args.r (level_row _ c.args.pool.now.sound _ c.requires) (λ e. c.if-level-eq-LEVEL_SUCC.false (c.level.ensures.0 ∙ e)) _)

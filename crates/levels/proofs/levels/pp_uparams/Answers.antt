@@ -1,38 +1,26 @@
-use Rattle.levels.proofs.Universes.{list_fits, no_levels, some_levels}
-use Rattle.document.specs.Sink.State.{state}
+use Rattle.document.proofs.Leaving.{leaves_as, leaves_after}
+use Rattle.utf8.specs.Quoted.{bytes, encode}
+use Rattle.pool.specs.Views.{lent}
+use Rattle.pool.proofs.RowUnfolds.{list_fits}
+use Rattle.levels.proofs.Universes.{no_levels, some_levels}
 use native.Mathlib.Omega.{arith}
 use mathlib.Core.Path.{sym, ◌∙◌}
 use Rattle.levels.proofs.levels.pp_uparams.Goals as goal
 
 pub returns-then-count-eq0 : goal.returns-then-count-eq0
+unfolding bytes encode
 returns-then-count-eq0 c =
-    c.put_word.ensures
-    ∙ no_levels c.args.bytes.now c.args.names.now c.args.words.now c.args.r
-    (state c.args.rows.now c.args.text.now c.args.s) (sym c.list_length-count.ensures.0
-    ∙ c.if-count-eq0.true)
+    leaves_as c.put_word.ensures (no_levels (lent c.args.pool.now) c.args.r _ (sym c.list-count.ensures.0 ∙ c.if-count-eq0.true))
 
-pub pp_levels-s-requires : goal.pp_levels-s-requires
-pp_levels-s-requires c = (
-  c.requires.0,
+pub pp_levels-requires : goal.pp_levels-requires
+pp_levels-requires c = (
   omega (arith, c.if-count-eq0.false),
-  omega (
-    arith,
-    c.list_offset-from.ensures.0,
-    c.list_length-count.ensures.0,
-    list_fits c.args.bytes.now
-        c.args.names.now c.args.words.now c.args.t c.requires.0 c.args.r c.requires.1,
-  ),
+  omega (arith, c.list-from.ensures.0, c.list-count.ensures.0, list_fits (lent c.args.pool.now) c.args.pool.now.sound c.args.r c.requires),
 )
 
 pub returns : goal.returns
+unfolding bytes encode
 returns c =
-    rw (
-      c.put_join.ensures,
-      c.pp_levels-s.ensures,
-      c.put_word-s.ensures,
-      c.list_offset-from.ensures.0,
-      c.list_length-count.ensures.0,
-    )
-    (some_levels c.args.bytes.now c.args.names.now c.args.words.now c.args.r
-    (state c.args.rows.now c.args.text.now c.args.s)
-    (λ e. c.if-count-eq0.false (c.list_length-count.ensures.0 ∙ e)))
+    leaves_as (leaves_after (leaves_after c.put_word-2.ensures c.pp_levels.ensures) c.put_join.ensures)
+    (rw (c.list-from.ensures.0, c.list-count.ensures.0)
+    (some_levels (lent c.args.pool.now) c.args.r _ (λ e. c.if-count-eq0.false (c.list-count.ensures.0 ∙ e))))

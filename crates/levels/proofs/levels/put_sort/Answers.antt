@@ -1,8 +1,9 @@
-use Rattle.pieces.specs.Docs.{quoted}
-use Rattle.document.specs.Sink.{emit}
+use Rattle.document.proofs.Leaving.{leaves_as, leaves_after}
+use mathlib.Core.Path.{refl}
+use Rattle.utf8.specs.Quoted.{bytes, encode}
 use Rattle.levels.proofs.levels.put_sort.Goals as goal
 
 pub returns : goal.returns
-unfolding emit quoted
+unfolding bytes encode
 returns c =
-    rw (c.put_join.ensures, c.pp_level-s.ensures, c.join_word-s.ensures, c.put_word-s.ensures)
+    leaves_as (leaves_after (leaves_after (leaves_after c.put_word.ensures c.join_word.ensures) c.pp_level.ensures) c.put_join.ensures) refl

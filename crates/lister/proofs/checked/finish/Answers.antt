@@ -1,12 +1,11 @@
-use Rattle.lister.proofs.Finishing.{stop_finishes, layout_finishes}
+use Rattle.lister.proofs.Finishing.{stop_finishes, layout_finishes, done_laid, refused_laid}
 use Rattle.lister.proofs.checked.finish.Goals as goal
 
-pub returns-then-s-ne0 : goal.returns-then-s-ne0
-returns-then-s-ne0 c =
-    stop_finishes c.args.s c.args.width (record { rows = c.args.rows.now; text = c.args.text.now; listing = c.args.listing.now }) _
-    c.if-s-ne0.true _ _ c.clear.ensures.0 c.clear.ensures.1 c.stop_answer.ensures
+pub returns-in-Some : goal.returns-in-Some
+returns-in-Some c = stop_finishes _ _ _ _ c.in-Some.is _ c.from.ensures _ _ c.clear.ensures.0 c.clear.ensures.1
 
-pub returns : goal.returns
-returns c =
-    layout_finishes c.args.s c.args.width (record { rows = c.args.rows.now; text = c.args.text.now; listing = c.args.listing.now }) _
-    c.if-s-ne0.false _ _ c.layout_accepted-laid.ensures c.of_laid.ensures
+pub returns-in-Ok : goal.returns-in-Ok
+returns-in-Ok c = layout_finishes _ _ _ c.in_default.is _ _ _ c.layout_accepted.ensures (done_laid _ _ c.in-Ok.is)
+
+pub returns-in-Err : goal.returns-in-Err
+returns-in-Err c = layout_finishes _ _ _ c.in_default.is _ _ _ c.layout_accepted.ensures (refused_laid _ _ c.in-Err.is)

@@ -1,11 +1,21 @@
-use mathlib.Core.Path.{sym, ◌∙◌}
-use Rattle.lister.specs.Handing.{string_span}
+use native.Mathlib.Omega.{arith}
+use mathlib.Core.Path.{◌≡◌, sym, ap, ◌∙◌}
+use Rattle.pool.specs.Tables.{Pool, S, string_word}
+use Rattle.lister.proofs.HandingLaws.{string_refused, string_missing, string_there}
 use Rattle.lister.proofs.handing.string_span.Goals as goal
 
-pub returns-then-not-has_string : goal.returns-then-not-has_string
-unfolding string_span
-returns-then-not-has_string c = rw (sym c.has_string.ensures ∙ c.if-not-has_string.true)
+pub returns-in_default : goal.returns-in_default
+returns-in_default c = string_refused _ _ _ (sym c.in_default.ensures.verdict)
+
+pub returns-then-pool-r : goal.returns-then-pool-r
+returns-then-pool-r c =
+    let strings : c.in-Ok.pool.names.tables.strings ≡ S c.args.words.now = c.in-Ok.pool.names.found.strings ∙ ap (λ (q : Pool). S q.names) c.in-Ok.ensures.same in
+    string_missing _ _ (sym c.in-Ok.ensures.verdict) (omega (arith, strings, c.if-pool-r.true))
 
 pub returns : goal.returns
-unfolding string_span
-returns c = rw (c.string_word-offset.ensures.0, c.string_word-size.ensures.0, sym c.has_string.ensures ∙ c.if-not-has_string.false)
+returns c =
+    let same = c.in-Ok.ensures.same in
+    let strings : c.in-Ok.pool.names.tables.strings ≡ S c.args.words.now = c.in-Ok.pool.names.found.strings ∙ ap (λ (q : Pool). S q.names) same in
+    string_there _ _ (sym c.in-Ok.ensures.verdict) (omega (arith, strings, c.if-pool-r.false)) _ _
+    (c.string.ensures.0 ∙ ap (λ (q : Pool). string_word q.names c.args.r 0) same)
+    (c.string-2.ensures.0 ∙ ap (λ (q : Pool). string_word q.names c.args.r 1) same)

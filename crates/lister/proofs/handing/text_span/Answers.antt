@@ -8,4 +8,4 @@ returns-then-not-has_text c = rw (sym c.has_text.ensures ∙ c.if-not-has_text.t
 
 pub returns : goal.returns
 unfolding text_span
-returns c = rw (c.word_at-offset.ensures.0, c.word_at-size.ensures.0, sym c.has_text.ensures ∙ c.if-not-has_text.false)
+returns c = rw (c.word_at.ensures.0, c.word_at-2.ensures.0, sym c.has_text.ensures ∙ c.if-not-has_text.false)

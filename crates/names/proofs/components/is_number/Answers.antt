@@ -1,8 +1,7 @@
-use Rattle.names.proofs.Rows.{name_row, number_by}
+use Rattle.pool.specs.Views.{lent}
+use Rattle.pool.proofs.RowUnfolds.{name_row}
+use Rattle.names.proofs.Rows.{number_by}
 use Rattle.names.proofs.components.is_number.Goals as goal
 
 pub returns : goal.returns
-returns c =
-    rw c.name_kind.ensures.0
-    (number_by c.args.bytes.now c.args.names.now c.args.words.now c.args.r
-    (name_row c.args.bytes.now c.args.names.now c.args.words.now c.args.t c.requires.0 c.args.r c.requires.1))
+returns c = rw c.name.ensures.0 (number_by (lent c.args.pool.now) c.args.r (name_row _ c.args.pool.now.sound _ c.requires))

@@ -1,9 +1,7 @@
-use Rattle.names.proofs.Rows.{name_row, prefix_by}
+use Rattle.pool.specs.Views.{lent}
+use Rattle.pool.proofs.RowUnfolds.{name_row}
+use Rattle.names.proofs.Rows.{prefix_by}
 use Rattle.names.proofs.components.prefix_of.Goals as goal
 
 pub returns : goal.returns
-returns c =
-    rw c.name_prefix.ensures.0
-    (prefix_by c.args.bytes.now c.args.names.now c.args.words.now c.args.r
-    (name_row c.args.bytes.now c.args.names.now c.args.words.now c.args.t c.requires.0 c.args.r c.requires.1)
-    c.requires.2)
+returns c = rw c.name.ensures.0 (prefix_by (lent c.args.pool.now) c.args.r (name_row _ c.args.pool.now.sound _ c.requires.0) c.requires.1)

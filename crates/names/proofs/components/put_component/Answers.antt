@@ -1,34 +1,32 @@
-use Rattle.names.proofs.Rows.{name_row, fits_by, component_string, component-number}
-use mathlib.Core.Path.{sym, ◌∙◌}
+use Rattle.document.proofs.Leaving.{leaves_as}
+use Rattle.document.specs.Sink.{State, put_bytes}
+use Rattle.document.specs.Leaves.{state_of}
+use Rattle.pool.specs.Views.{lent}
+use Rattle.pool.proofs.RowUnfolds.{name_row}
+use Rattle.names.proofs.Rows.{fits_by, component_string, component-number}
+use mathlib.Core.Path.{sym, ap, ◌∙◌}
+use mathlib.Core.List.{List}
+use Prim.Native.Nat.{ℕ}
 use Rattle.names.proofs.components.put_component.Goals as goal
 
 pub read_string-requires : goal.read_string-requires
 read_string-requires c =
-    rw c.name_low-low.ensures.0
-    (fits_by c.args.bytes.now c.args.names.now c.args.words.now c.args.r
-    (name_row c.args.bytes.now c.args.names.now c.args.words.now c.args.t c.requires.0 c.args.r c.requires.1)
-    (sym c.name_kind.ensures.0 ∙ c.if-name_kind-eq-NAME_STRING.true))
+    rw c.name-low.ensures.0 (fits_by (lent c.args.pool.now) c.args.r (name_row _ c.args.pool.now.sound _ c.requires.0) (sym c.name.ensures.0 ∙ c.if-name-eq-NAME_STRING.true))
 
-pub returns-then-name_kind-eq-NAME_STRING : goal.returns-then-name_kind-eq-NAME_STRING
-returns-then-name_kind-eq-NAME_STRING c =
-    rw (
-      c.put_escaped.ensures,
+pub returns-then-name-eq-NAME_STRING : goal.returns-then-name-eq-NAME_STRING
+returns-then-name-eq-NAME_STRING c =
+    leaves_as c.put_escaped.ensures
+    (rw (
       c.read_string.ensures,
-      c.name_low-low.ensures.0,
-      component_string
-          c.args.bytes.now c.args.names.now c.args.words.now c.args.r
-          (name_row c.args.bytes.now c.args.names.now c.args.words.now c.args.t c.requires.0 c.args.r c.requires.1)
-          (sym c.name_kind.ensures.0 ∙ c.if-name_kind-eq-NAME_STRING.true),
-    )
+      c.name-low.ensures.0,
+      component_string (lent c.args.pool.now) c.args.r (name_row _ c.args.pool.now.sound _ c.requires.0) (sym c.name.ensures.0 ∙ c.if-name-eq-NAME_STRING.true),
+    ))
 
 pub returns : goal.returns
 returns c =
-    rw (
-      c.put_digits.ensures,
-      c.name_low-low.ensures.0,
-      c.name_high-high.ensures.0,
-      component-number
-          c.args.bytes.now c.args.names.now c.args.words.now c.args.r
-          (name_row c.args.bytes.now c.args.names.now c.args.words.now c.args.t c.requires.0 c.args.r c.requires.1)
-          c.requires.2 (λ e. c.if-name_kind-eq-NAME_STRING.false (c.name_kind.ensures.0 ∙ e)),
-    )
+    leaves_as c.put_digits.ensures
+    (rw (
+      c.name-low.ensures.0,
+      c.name-high.ensures.0,
+      component-number (lent c.args.pool.now) c.args.r (name_row _ c.args.pool.now.sound _ c.requires.0) c.requires.1 (λ e. c.if-name-eq-NAME_STRING.false (c.name.ensures.0 ∙ e)),
+    ))

@@ -4,4 +4,4 @@ use Rattle.names.proofs.components.read_string.Goals as goal
 
 pub returns : goal.returns
 unfolding string_at
-returns c = rw (c.string_word-from.ensures.0, c.string_word.ensures.0, add-sub_cancel_left)
+returns c = rw (c.string-from.ensures.0, c.string.ensures.0, add-sub_cancel_left)

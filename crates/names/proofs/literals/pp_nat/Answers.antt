@@ -1,13 +1,12 @@
-use Rattle.names.proofs.Rows.{string_fits}
-use Rattle.pool.specs.Tables.{string_at}
+use Rattle.document.proofs.Leaving.{leaves_as}
+use Rattle.pool.specs.Views.{lent}
+use Rattle.pool.proofs.RowUnfolds.{string_fits}
 use Rattle.document.specs.Sink.{emit}
 use Rattle.names.proofs.literals.pp_nat.Goals as goal
 
 pub read_string-requires : goal.read_string-requires
-read_string-requires c =
-    string_fits c.args.bytes.now c.args.names.now c.args.words.now c.args.t c.requires.0 c.args.r c.requires.1
+read_string-requires c = string_fits (lent c.args.pool.now) c.args.pool.now.sound c.args.r c.requires
 
 pub returns : goal.returns
-unfolding emit string_at
-returns c =
-    rw (c.put_text.ensures, c.read_string.ensures)
+unfolding emit
+returns c = leaves_as c.put_text.ensures (rw c.read_string.ensures)

@@ -6,7 +6,7 @@ use Rattle.names.proofs.names.has_macro_scopes.Goals as goal
 
 pub prefix_of-at-requires : goal.prefix_of-at-requires
 prefix_of-at-requires c =
-    (c.requires.0, c.loop-at.invariant.0, number_named _ (sym c.is_number.ensures ∙ c.loop-at-test.true))
+    (c.loop-at.invariant.0, number_named _ (sym c.is_number.ensures ∙ c.loop-at-test.true))
 
 pub loop-at-preserved : goal.loop-at-preserved
 loop-at-preserved c = (

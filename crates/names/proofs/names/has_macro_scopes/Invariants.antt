@@ -1,5 +1,5 @@
 use Rattle.names.specs.Names.{is_hygienic}
-use Rattle.pool.specs.Areas.{over}
+use Rattle.pool.specs.Views.{lent}
 use Rattle.pool.specs.Unfold.{name_at}
 use Rattle.pool.specs.Tables.{N}
 use Prim.Native.Nat.{◌<◌}
@@ -8,7 +8,7 @@ use Rattle.names.proofs.names.has_macro_scopes.Given as goal
 
 abbrev pub invariant-loop-at : goal.invariant-loop-at
 invariant-loop-at l =
-    (l.at < N l.names) × (is_hygienic (name_at (over l.bytes l.names l.words) l.at) ≡ is_hygienic (name_at (over l.bytes l.names l.words) l.r))
+    (l.at < N (lent l.pool).names) × (is_hygienic (name_at (lent l.pool) l.at) ≡ is_hygienic (name_at (lent l.pool) l.r))
 
 abbrev pub decreases-loop-at : goal.decreases-loop-at
 decreases-loop-at l = l.at

@@ -1,17 +1,9 @@
-use native.Mathlib.Omega.{arith}
-use mathlib.Core.Path.{◌∙◌}
 use Rattle.occurrence.proofs.StepLaws.{sweeps_on, sweeps_end}
 use Rattle.occurrence.proofs.sweep.sweep_each.Goals as goal
 
 pub loop-s-preserved : goal.loop-s-preserved
-loop-s-preserved c = (
-  omega arith,
-  c.sweep.auto.sets ∙ c.loop-s.invariant.1,
-  c.sweep.auto.above ∙ c.loop-s.invariant.2,
-  sweeps_on c.args.words.now
-      c.args.i c.args.n c.loop-s.s _ _ _ c.loop-s-test.true c.sweep.ensures c.loop-s.invariant.3,
-)
+loop-s-preserved c =
+    sweeps_on c.args.words.now.words.now c.args.i c.args.n c.loop-s.s _ _ _ c.loop-s-test.true c.sweep.ensures c.loop-s.invariant
 
 pub returns : goal.returns
-returns c =
-    sweeps_end c.args.words.now c.args.i c.args.n c.loop-s.s _ _ c.loop-s-test.false c.loop-s.invariant.3
+returns c = sweeps_end c.args.words.now.words.now c.args.i c.args.n c.loop-s.s _ _ c.loop-s-test.false c.loop-s.invariant

@@ -1,20 +1,18 @@
+use Rattle.std.proofs.Common.{rules}
+use Rattle.std.proofs.lemmas.Iterator.{first_from_Range}
+use Rattle.byte_check.proofs.Scan.{found_is}
 use Rattle.pool.specs.Rules.{list_ok}
-use Rattle.byte_check.proofs.Scan.{bad_step, bad_found, bad_none}
-use Rattle.pool.specs.Areas.{over}
+use Rattle.pool.specs.Tables.{K}
+use Rattle.pool.specs.Views.{read}
+use borrow.Author.Tests.{tests}
 use native.Mathlib.Omega.{arith}
+use mathlib.Core.Bool.{true, false}
+use mathlib.Core.Path.{◌≡◌}
 use Rattle.pool_check.proofs.lists.first_bad_list.Goals as goal
 
-pub returns-then-not-list_ok : goal.returns-then-not-list_ok
-returns-then-not-list_ok c =
-    λ bs ns. bad_found (list_ok (over bs ns c.args.words.now)) _ _ _ c.loop-r-test.true
-    _ (c.list_ok.ensures bs ns) (c.loop-r.invariant.1 bs ns) c.if-not-list_ok.true
-
-pub loop-r-preserved : goal.loop-r-preserved
-loop-r-preserved c = (
-  omega arith,
-  λ bs ns. bad_step (list_ok (over bs ns c.args.words.now)) _ _ _ c.loop-r-test.true
-      _ (c.list_ok.ensures bs ns) (c.loop-r.invariant.1 bs ns) c.if-not-list_ok.false,
-)
-
 pub returns : goal.returns
-returns c = λ bs ns. bad_none (list_ok (over bs ns c.args.words.now)) _ _ _ c.loop-r.invariant.0 c.loop-r-test.false (c.loop-r.invariant.1 bs ns)
+returns c =
+    let p = read c.args.pool.now in
+    let count : c.args.pool.now.words.tables.lists ≡ K p.words = omega (arith, c.type_inv.pool) in
+    rw (← count) (found_is (list_ok p) c.args.pool.now.words.tables.lists c.find.result
+    (first_from_Range _ _ _ _ (λ r. list_ok p r ≡ false) (λ r. list_ok p r ≡ true) c.find.ensures.ran (λ x q k. search (rules, tests)) (λ x q k. search (rules, tests))))

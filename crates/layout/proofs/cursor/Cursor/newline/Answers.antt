@@ -8,11 +8,12 @@ use Rattle.layout.proofs.cursor.Cursor.newline.Goals as goal
 
 pub returns : goal.returns
 returns c =
-    let s = c.args in
+    let at = c.args.self.position in
+    let spaces = replicate c.args.nest 32 in
     record {
-      cursor = c.moved.ensures;
+      cursor = c.blank.ensures.cursor;
       bytes =
-          c.fill_at-2.ensures
-          ∙ ap (λ (l : List ℕ). paint l (s.self.position + 1) (replicate s.nest 32)) c.fill_at.ensures
-          ∙ paint-append s.listing.now s.self.position (10 ∷ []) (replicate s.nest 32);
+          c.blank.ensures.bytes
+          ∙ ap (λ (bytes : List ℕ). paint bytes (at + 1) spaces) c.fill_at.ensures
+          ∙ paint-append c.args.area.now at (10 ∷ []) spaces;
     }

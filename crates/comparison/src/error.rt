@@ -1,0 +1,21 @@
+// Why the comparison is refused.
+ghost use Rattle.std.specs.Prelude.{◌≡◌};
+ghost use Rattle.comparison.specs.declared.error.CompareError.TheVariants.{Pool};
+
+use pool_check::PoolError;
+
+#[derive(Clone, Copy, Debug, PartialEq, Eq)]
+pub enum CompareError {
+    // 1 to 4: what check finds.
+    Pool { error: PoolError },
+    // 5: one of the rows is missing.
+    Root,
+}
+
+impl From<PoolError> for CompareError {
+    ghost from_gives = { λ e r. r ≡ Pool e };
+
+    fn from(error: PoolError) -> CompareError {
+        CompareError::Pool { error }
+    }
+}

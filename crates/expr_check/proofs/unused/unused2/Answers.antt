@@ -1,6 +1,0 @@
-use Rattle.pool.specs.Rules.{unused}
-use Rattle.expr_check.proofs.unused.unused2.Goals as goal
-
-pub returns : goal.returns
-unfolding unused
-returns c = rw (c.both.ensures, c.unused1.ensures)

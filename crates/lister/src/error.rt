@@ -1,0 +1,47 @@
+// Why a print is refused.
+ghost use Rattle.std.specs.Prelude.{◌≡◌};
+ghost use Rattle.lister.specs.Answers.{of_pool, of_stop};
+
+use document::written::Stop;
+use pool_check::PoolError;
+
+#[derive(Clone, Copy, Debug, PartialEq, Eq)]
+pub enum PrintError {
+    // 1 to 4: what check finds.
+    Pool { error: PoolError },
+    // 5: no such root.
+    Root,
+    // 6: indent over 64 or width over 65,535.
+    Size,
+    // 7: a chain or let brings the stack over 1,024.
+    Names { row: usize },
+    // 8: a text byte or row past the document's limits.
+    Document { rows: usize },
+    // 20: row area full.
+    RowArea { rows: usize },
+    // 21: text area full.
+    TextArea { rows: usize },
+    // 22: listing longer than its area.
+    Listing,
+}
+
+impl From<PoolError> for PrintError {
+    ghost from_gives = { λ e r. r ≡ of_pool e };
+
+    fn from(error: PoolError) -> PrintError {
+        PrintError::Pool { error }
+    }
+}
+
+impl From<Stop> for PrintError {
+    ghost from_gives = { λ e r. r ≡ of_stop e };
+
+    fn from(stop: Stop) -> PrintError {
+        match stop {
+            Stop::Names { row } => PrintError::Names { row },
+            Stop::Document { rows } => PrintError::Document { rows },
+            Stop::RowArea { rows } => PrintError::RowArea { rows },
+            Stop::TextArea { rows } => PrintError::TextArea { rows },
+        }
+    }
+}
