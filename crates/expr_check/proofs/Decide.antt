@@ -2,21 +2,23 @@
 use Prim.Native.Nat.{ℕ, zero, suc, ◌≤◌}
 use native.Mathlib.Omega.{arith}
 use mathlib.Core.Bool.{Bool, true, false, ◌&&◌}
-use mathlib.Core.List.{List, [], ◌∷◌, map}
-use mathlib.Core.Path.{◌≡◌, refl, ap}
+use mathlib.Core.List.{List, [], ◌∷◌}
+use mathlib.Core.Path.{◌≡◌, refl, sym}
 use lib.Dec.{eqb, leb}
 use Rattle.std.specs.Prelude.{None, Some}
-use Rattle.std.specs.List.{list_all}
+use Rattle.std.specs.List.{fold}
+use Rattle.basics.proofs.Booleans.{and-true}
 use Rattle.pool.specs.Tables.{Pool, expr_word}
 use Rattle.pool.specs.Kinds.{ExprKind, expr_kind, noExprᵏ}
 use Rattle.pool.specs.Rules.{unused, expr_fields_ok, depth_by, loose_by, expr_ok}
 use Rattle.expr_check.specs.declared.kinds.Asked.{Asked}
 use Rattle.expr_check.specs.Fields.{asked_by}
 
-pub unused_all : (f : ℕ → ℕ) (ks : List ℕ) → list_all (λ k. eqb (f k) 0) ks ≡ unused (map f ks)
+pub unused_fold : (ws : List ℕ) (b : Bool) → fold (λ b w. b && eqb w 0) b ws ≡ b && unused ws
 unfolding unused
-unused_all f [] = refl
-unused_all f (k ∷ ks) = ap (λ (b : Bool). eqb (f k) 0 && b) (unused_all f ks)
+unused_fold [] b = sym (and-true b)
+unused_fold (w ∷ ws) true = unused_fold ws (eqb w 0)
+unused_fold (w ∷ ws) false = unused_fold ws false
 
 -- ten and above
 pub expr_none : (k : ℕ) → 10 ≤ k → expr_kind k ≡ noExprᵏ

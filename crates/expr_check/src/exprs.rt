@@ -5,6 +5,7 @@ ghost use Rattle.pool.specs.Rules.{expr_ok};
 ghost use Rattle.pool.specs.Views.{read};
 ghost use Rattle.byte_check.specs.Scan.{found};
 ghost use Rattle.byte_check.specs.Runs.{Marked};
+ghost use Rattle.expr_check.specs.Fields.{row_of};
 ghost use Rattle.expr_check.specs.Marks.{MarkedFor, Right, Scanned};
 
 use crate::kinds::{Asked, ask};
@@ -14,13 +15,27 @@ use pool::kinds::EXPR_NAT;
 use pool::pool::Pool;
 use pool::words::Words;
 
-// Whether the depth and loose words of a row are those that its kind asks.
-fn as_asked(words: &Words<'_>, r: usize, want: Asked) -> bool
-    ensures { result ≡ eqb (expr_word words.now.words.now r 6) want.depth
-        && (leb (expr_word words.now.words.now r 6) 256 && eqb (expr_word words.now.words.now r 7) want.loose) }
+// The words of a row, read once.
+fn row_at(words: &Words<'_>, r: usize) -> [usize; 8]
+    ensures { result ≡ row_of words.now.words.now r }
 {
-    let depth = words.expr(r, EXPR_DEPTH);
-    depth == want.depth && (depth <= 256 && words.expr(r, EXPR_LOOSE) == want.loose)
+    [
+        words.expr(r, 0),
+        words.expr(r, 1),
+        words.expr(r, 2),
+        words.expr(r, 3),
+        words.expr(r, 4),
+        words.expr(r, 5),
+        words.expr(r, 6),
+        words.expr(r, 7),
+    ]
+}
+
+// Whether the depth and loose words of a row are those that its kind asks.
+fn as_asked(depth: usize, loose: usize, want: Asked) -> bool
+    ensures { result ≡ eqb depth want.depth && (leb depth 256 && eqb loose want.loose) }
+{
+    (depth == want.depth) & ((depth <= 256) & (loose == want.loose))
 }
 
 // Whether a row keeps its rules. No natural is taken where `marks` is empty.
@@ -28,8 +43,9 @@ fn expr_ok(pool: &Pool<'_>, marks: &[u8], r: usize) -> bool
     ensures marked { MarkedFor (read pool.now) marks.now r → result ≡ expr_ok (read pool.now) r }
     ensures unmarked { marks.now ≡ [] → expr_word (read pool.now).words r 0 ≡ 8 → result ≡ false }
 {
-    match ask(pool, marks, r) {
-        Some(want) => as_asked(&pool.words, r, want),
+    let row = row_at(&pool.words, r);
+    match ask(pool, marks, r, &row) {
+        Some(want) => as_asked(row[EXPR_DEPTH], row[EXPR_LOOSE], want),
         None => false,
     }
 }
@@ -40,8 +56,10 @@ fn scan_exprs(pool: &Pool<'_>, marks: &[u8], from: usize) -> Option<usize>
     requires { (marks.now ≡ []) ⊎ Marked (read pool.now) marks.now }
     ensures { Scanned (read pool.now) marks.now from result }
 {
+    // A copy, so that where the table starts is read before the loop.
+    let pool = *pool;
     for r in from..pool.words.tables.exprs {
-        if !expr_ok(pool, marks, r) {
+        if !expr_ok(&pool, marks, r) {
             return Some(r);
         }
     }

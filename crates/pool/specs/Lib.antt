@@ -5,6 +5,7 @@ pub mod Tree
 pub mod Unfold
 pub mod Rules
 -- what the contracts and the proofs speak of
+pub mod Codes
 pub mod Areas
 pub mod Depths
 pub mod Sound

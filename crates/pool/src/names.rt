@@ -2,7 +2,10 @@
 ghost use Rattle.std.specs.Prelude.{◌≡◌, ◌<◌};
 ghost use Rattle.pool.specs.Tables.{string_word, name_word};
 ghost use Rattle.pool.specs.Areas.{NamesOf};
+ghost use Rattle.pool.specs.Codes.{Stands, name_code};
 
+use crate::fields::NAME_KIND;
+use crate::kinds::NameKind;
 use crate::tables::{NameTables, name_tables, row_word};
 
 #[derive(Clone, Copy)]
@@ -35,5 +38,12 @@ impl<'a> Names<'a> {
         ensures { (result ≡ name_word self.now.words.now r k) × (result < 4294967296) }
     {
         row_word(self.words, self.tables.names_at, 4, r, k)
+    }
+
+    // The kind of a name row, if its word stands for one.
+    pub fn kind(&self, r: usize) -> Option<NameKind>
+        ensures { Stands name_code 2 (name_word self.now.words.now r 0) result }
+    {
+        NameKind::try_from(self.name(r, NAME_KIND)).ok()
     }
 }

@@ -2,7 +2,10 @@
 ghost use Rattle.std.specs.Prelude.{◌≡◌, ◌<◌};
 ghost use Rattle.pool.specs.Tables.{level_word, list_word, list_entry, expr_word, declar_word};
 ghost use Rattle.pool.specs.Areas.{WordsOf};
+ghost use Rattle.pool.specs.Codes.{Stands, declar_code, expr_code, level_code, style_code};
 
+use crate::fields::{BINDER_STYLE, DECLAR_KIND, EXPR_KIND, LEVEL_KIND};
+use crate::kinds::{BinderStyle, DeclarKind, ExprKind, LevelKind};
 use crate::tables::{WordTables, row_word, word_tables};
 
 #[derive(Clone, Copy)]
@@ -55,5 +58,30 @@ impl<'a> Words<'a> {
         ensures { (result ≡ declar_word self.now.words.now r k) × (result < 4294967296) }
     {
         row_word(self.words, self.tables.declars_at, 5, r, k)
+    }
+
+    // The kind of a row of each table, and the style of a binder, if its word stands for one.
+    pub fn level_kind(&self, r: usize) -> Option<LevelKind>
+        ensures { Stands level_code 4 (level_word self.now.words.now r 0) result }
+    {
+        LevelKind::try_from(self.level(r, LEVEL_KIND)).ok()
+    }
+
+    pub fn expr_kind(&self, r: usize) -> Option<ExprKind>
+        ensures { Stands expr_code 9 (expr_word self.now.words.now r 0) result }
+    {
+        ExprKind::try_from(self.expr(r, EXPR_KIND)).ok()
+    }
+
+    pub fn binder_style(&self, r: usize) -> Option<BinderStyle>
+        ensures { Stands style_code 3 (expr_word self.now.words.now r 2) result }
+    {
+        BinderStyle::try_from(self.expr(r, BINDER_STYLE)).ok()
+    }
+
+    pub fn declar_kind(&self, r: usize) -> Option<DeclarKind>
+        ensures { Stands declar_code 7 (declar_word self.now.words.now r 0) result }
+    {
+        DeclarKind::try_from(self.declar(r, DECLAR_KIND)).ok()
     }
 }

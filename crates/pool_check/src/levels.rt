@@ -38,8 +38,10 @@ fn scan_levels(pool: &Pool<'_>, depths: &mut [u8]) -> Option<usize>
     requires { L (read pool.now).words ≤ length depths.old }
     ensures { result ≡ found (level_ok (read pool.now)) (L (read pool.now).words) }
 {
+    // A copy, which no write to `depths` can be thought to change.
+    let pool = *pool;
     for r in 0..pool.words.tables.levels {
-        let Some(depth) = ask_level(pool, r, depths) else {
+        let Some(depth) = ask_level(&pool, r, depths) else {
             return Some(r);
         };
         if 64 < depth {

@@ -36,6 +36,8 @@ fn scan_names(pool: &Pool<'_>, depths: &mut [u8]) -> Option<usize>
     requires { N (read pool.now).names ≤ length depths.old }
     ensures { result ≡ found (name_ok (read pool.now)) (N (read pool.now).names) }
 {
+    // A copy, which no write to `depths` can be thought to change.
+    let pool = *pool;
     for r in 0..pool.names.tables.names {
         let Some(depth) = ask_name(&pool.names, r, depths) else {
             return Some(r);
