@@ -1,6 +1,6 @@
 // Chains: the longest run of pi and lambda from a row on.
 ghost use Rattle.std.specs.Prelude.{◌≡◌, ◌+◌, ◌<◌, ◌≤◌};
-ghost use Rattle.pool.specs.Tables.{E};
+ghost use Rattle.pool.specs.Tables.{E, expr_word};
 ghost use Rattle.binders.specs.Options.{pool_of};
 ghost use Rattle.pool.specs.Unfold.{expr_at};
 ghost use Rattle.binders.specs.Asked.{Asked, ChainPushed};
@@ -8,14 +8,18 @@ ghost use Rattle.binders.specs.Steps.{binder_kind, chain_length};
 
 use crate::printer::Printer;
 use crate::stack::Stack;
-use pool::fields::{BINDER_BODY, BINDER_NAME, EXPR_KIND};
-use pool::kinds::{EXPR_LAMBDA, EXPR_PI};
+use pool::fields::{BINDER_BODY, BINDER_NAME};
+use pool::kinds::ExprKind;
 
+// Whether row r is a pi or a lambda.
 #[tactic(auto, unfolding(crate::specs::Steps::binder_kind))]
-pub fn is_binder(kind: usize) -> bool
-    ensures { result ≡ binder_kind kind }
+pub fn is_binder(p: &Printer<'_>, r: usize) -> bool
+    ensures { result ≡ binder_kind (expr_word (pool_of p.now).words r 0) }
 {
-    matches!(kind, EXPR_PI | EXPR_LAMBDA)
+    matches!(
+        p.pool.words.expr_kind(r),
+        Some(ExprKind::Pi | ExprKind::Lambda)
+    )
 }
 
 // How many binders the chain at row r has.
@@ -26,7 +30,7 @@ pub fn chain_length(p: &Printer<'_>, r: usize) -> usize
 {
     let mut at = r;
     let mut n = 0;
-    while is_binder(p.pool.words.expr(at, EXPR_KIND)) {
+    while is_binder(p, at) {
         n += 1;
         at = p.pool.words.expr(at, BINDER_BODY);
     }
@@ -42,7 +46,7 @@ pub fn push_chain(p: &Printer<'_>, k: &mut Stack, h: usize, r: usize)
 {
     let mut at = r;
     let mut scope = h;
-    while is_binder(p.pool.words.expr(at, EXPR_KIND)) {
+    while is_binder(p, at) {
         k.push(p.pool.words.expr(at, BINDER_NAME), scope);
         scope = k.count;
         at = p.pool.words.expr(at, BINDER_BODY);

@@ -17,7 +17,7 @@ use difference::trees::same_lifted;
 use document::sink::Sink;
 use pieces::words::end_tile;
 use pool::fields::{BINDER_BODY, BINDER_STYLE, BINDER_TYPE};
-use pool::kinds::STYLE_INSTANCE;
+use pool::kinds::BinderStyle;
 
 // Whether the binder at row `at` belongs to the group of one j places before it, with that style and type row.
 #[tactic(auto, using(crate::proofs::BinderLaws::binder_rows), unfolding(crate::specs::Steps::in_group))]
@@ -27,8 +27,8 @@ fn in_group(p: &Printer<'_>, at: usize, style: usize, like: usize, j: usize) -> 
     ensures { result ≡ in_group style (expr_at (pool_of p.now) like) j
         (first_binder (expr_at (pool_of p.now) at)) }
 {
-    style != STYLE_INSTANCE
-        && style == p.pool.words.expr(at, BINDER_STYLE)
+    style == p.pool.words.expr(at, BINDER_STYLE)
+        && p.pool.words.binder_style(at) != Some(BinderStyle::Instance)
         && same_lifted(&p.pool, like, p.pool.words.expr(at, BINDER_TYPE), j)
 }
 

@@ -11,15 +11,8 @@ use crate::printer::Printer;
 use document::sink::Sink;
 use levels::levels::pp_sort;
 use names::literals::{pp_const, pp_nat, pp_string};
-use pool::fields::{CONST_NAME, EXPR_KIND, LITERAL_STRING, SORT_LEVEL};
-use pool::kinds::{EXPR_CONST, EXPR_NAT, EXPR_SORT, EXPR_STRING};
-
-#[tactic(auto, unfolding(crate::specs::Leaves::leaf_kind))]
-pub fn is_leaf(kind: usize) -> bool
-    ensures { result ≡ leaf_kind kind }
-{
-    matches!(kind, EXPR_SORT | EXPR_CONST | EXPR_NAT | EXPR_STRING)
-}
+use pool::fields::{CONST_NAME, LITERAL_STRING, SORT_LEVEL};
+use pool::kinds::ExprKind;
 
 #[tactic(auto, using(crate::proofs::LeafLaws::leaf_rows), unfolding(crate::specs::Leaves::leaf_kind))]
 pub fn pp_leaf(p: &Printer<'_>, sink: &mut Sink<'_>, r: usize)
@@ -27,10 +20,10 @@ pub fn pp_leaf(p: &Printer<'_>, sink: &mut Sink<'_>, r: usize)
         × (leaf_kind (expr_word (pool_of p.now).words r 0) ≡ true) }
     ensures { Leaves sink.old sink.new (emit (leaf_doc (expr_at (pool_of p.now) r))) }
 {
-    match p.pool.words.expr(r, EXPR_KIND) {
-        EXPR_SORT => pp_sort(&p.pool, sink, p.pool.words.expr(r, SORT_LEVEL)),
-        EXPR_CONST => pp_const(&p.pool, sink, p.pool.words.expr(r, CONST_NAME)),
-        EXPR_NAT => pp_nat(&p.pool, sink, p.pool.words.expr(r, LITERAL_STRING)),
+    match p.pool.words.expr_kind(r) {
+        Some(ExprKind::Sort) => pp_sort(&p.pool, sink, p.pool.words.expr(r, SORT_LEVEL)),
+        Some(ExprKind::Const) => pp_const(&p.pool, sink, p.pool.words.expr(r, CONST_NAME)),
+        Some(ExprKind::Nat) => pp_nat(&p.pool, sink, p.pool.words.expr(r, LITERAL_STRING)),
         _ => pp_string(&p.pool, sink, p.pool.words.expr(r, LITERAL_STRING)),
     }
 }

@@ -1,5 +1,5 @@
 // The binders of a chain: which are arrows, where a run ends, and their names.
-ghost use Rattle.std.specs.Prelude.{◌≡◌, true, not, ◌&&◌, ◌<◌, ◌≤◌};
+ghost use Rattle.std.specs.Prelude.{◌≡◌, true, not, ◌&&◌, ◌<◌, ◌≤◌, eqb};
 ghost use Rattle.pool.specs.Tables.{E, expr_word};
 ghost use Rattle.binders.specs.Options.{pool_of};
 ghost use Rattle.pool.specs.Unfold.{expr_at};
@@ -16,8 +16,8 @@ use names::components::is_anonymous;
 use names::names::{has_macro_scopes, pp_name_safe};
 use occurrence::occurs::has_var;
 use pieces::words::put_word;
-use pool::fields::{BINDER_BODY, BINDER_NAME, BINDER_STYLE, EXPR_KIND};
-use pool::kinds::{EXPR_LAMBDA, EXPR_PI, STYLE_DEFAULT};
+use pool::fields::{BINDER_BODY, BINDER_NAME};
+use pool::kinds::{BinderStyle, ExprKind};
 
 // Whether the variable of the binder at row r occurs in its body.
 #[tactic(auto, using(crate::proofs::BinderLaws::binder_rows))]
@@ -29,6 +29,13 @@ pub fn is_used(p: &Printer<'_>, r: usize) -> bool
     has_var(&p.pool, p.pool.words.expr(r, BINDER_BODY), 0)
 }
 
+// Whether row r is a pi.
+pub fn is_pi(p: &Printer<'_>, r: usize) -> bool
+    ensures { result ≡ eqb (expr_word (pool_of p.now).words r 0) 4 }
+{
+    p.pool.words.expr_kind(r) == Some(ExprKind::Pi)
+}
+
 // The binder at row r: pi, default style, and body without its variable, or anonymous, or hygienic.
 #[tactic(auto, using(crate::proofs::BinderLaws::binder_rows), unfolding(crate::specs::Binders::is_arrow))]
 pub fn is_arrow(p: &Printer<'_>, r: usize) -> bool
@@ -37,8 +44,8 @@ pub fn is_arrow(p: &Printer<'_>, r: usize) -> bool
     ensures { result ≡ is_arrow (first_binder (expr_at (pool_of p.now) r)) }
 {
     let name = p.pool.words.expr(r, BINDER_NAME);
-    p.pool.words.expr(r, EXPR_KIND) == EXPR_PI
-        && p.pool.words.expr(r, BINDER_STYLE) == STYLE_DEFAULT
+    is_pi(p, r)
+        && p.pool.words.binder_style(r) == Some(BinderStyle::Default)
         && (is_anonymous(&p.pool, name) || has_macro_scopes(&p.pool, name) || !is_used(p, r))
 }
 
@@ -49,11 +56,10 @@ pub fn in_run(p: &Printer<'_>, r: usize, pis: bool) -> bool
     ensures { result ≡ (is_binder (expr_at (pool_of p.now) r) && in_run pis
         (first_binder (expr_at (pool_of p.now) r))) }
 {
-    let kind = p.pool.words.expr(r, EXPR_KIND);
     if pis {
-        kind == EXPR_PI && !is_arrow(p, r)
+        is_pi(p, r) && !is_arrow(p, r)
     } else {
-        kind == EXPR_LAMBDA
+        p.pool.words.expr_kind(r) == Some(ExprKind::Lambda)
     }
 }
 
@@ -93,7 +99,7 @@ pub fn part_end(p: &Printer<'_>, r: usize, arrow: bool) -> Reached
             count: 1,
         }
     } else {
-        run_end(p, r, p.pool.words.expr(r, EXPR_KIND) == EXPR_PI)
+        run_end(p, r, is_pi(p, r))
     }
 }
 

@@ -5,8 +5,8 @@ ghost use Rattle.binders.specs.Options.{pool_of};
 ghost use Rattle.binders.specs.Spines.{SpineOf};
 
 use crate::printer::Printer;
-use pool::fields::{APP_ARGUMENT, APP_FUNCTION, EXPR_KIND};
-use pool::kinds::EXPR_APP;
+use pool::fields::{APP_ARGUMENT, APP_FUNCTION};
+use pool::kinds::ExprKind;
 
 // The rows of an application's arguments, the last one first, and of its head. The arguments are the first `count` of an array, whose size is
 // fixed, as nothing here is allocated.
@@ -26,7 +26,7 @@ pub fn spine_of(p: &Printer<'_>, r: usize) -> Spine
     let mut arguments = [0u32; 256];
     let mut at = r;
     let mut n = 0;
-    while p.pool.words.expr(at, EXPR_KIND) == EXPR_APP {
+    while p.pool.words.expr_kind(at) == Some(ExprKind::App) {
         arguments[n] = p.pool.words.expr(at, APP_ARGUMENT) as u32;
         n += 1;
         at = p.pool.words.expr(at, APP_FUNCTION);

@@ -13,7 +13,7 @@ ghost use Rattle.declarations.specs.Heads.{Declared, can_take, TakenEnd, head_pa
 
 use binders::chain::{chain_length, push_chain};
 use binders::printer::Printer;
-use binders::runs::{in_run, run_end};
+use binders::runs::{in_run, is_pi, run_end};
 use binders::stack::Stack;
 use document::sink::Sink;
 use levels::levels::pp_uparams;
@@ -21,10 +21,9 @@ use names::components::is_anonymous;
 use names::names::pp_name_safe;
 use pieces::words::{join_line, join_word, put_word};
 use pool::fields::{
-    BINDER_BODY, BINDER_NAME, BINDER_STYLE, DECLAR_KIND, DECLAR_LIST, DECLAR_NAME, DECLAR_TYPE,
-    DECLAR_VALUE, EXPR_KIND,
+    BINDER_BODY, BINDER_NAME, DECLAR_KIND, DECLAR_LIST, DECLAR_NAME, DECLAR_TYPE, DECLAR_VALUE,
 };
-use pool::kinds::{EXPR_PI, STYLE_DEFAULT};
+use pool::kinds::BinderStyle;
 use pretty_printer::exprs::{pp_expr, pp_tail, telescope};
 
 // Whether the binder at row r can leave a type: a pi of default style that is not anonymous.
@@ -34,8 +33,8 @@ fn can_leave(p: &Printer<'_>, r: usize) -> bool
     ensures { result ≡ (is_binder (expr_at (pool_of p.now) r) && can_leave
         (first_binder (expr_at (pool_of p.now) r))) }
 {
-    p.pool.words.expr(r, EXPR_KIND) == EXPR_PI
-        && p.pool.words.expr(r, BINDER_STYLE) == STYLE_DEFAULT
+    is_pi(p, r)
+        && p.pool.words.binder_style(r) == Some(BinderStyle::Default)
         && !is_anonymous(&p.pool, p.pool.words.expr(r, BINDER_NAME))
 }
 
@@ -125,22 +124,22 @@ fn pp_declar_head(p: &Printer<'_>, sink: &mut Sink<'_>, r: usize)
 }
 
 // What is left of a type after its first m binders, after a break.
-fn pp_type(p: &Printer<'_>, sink: &mut Sink<'_>, k: &Stack, m: usize, r: usize)
-    requires { InChain (pool_of p.now) k.now m m r }
-    ensures { Leaves sink.old sink.new (emit (type_part (options_of p.now) (pool_of p.now) k.now m
+fn pp_type(p: &Printer<'_>, sink: &mut Sink<'_>, k: Stack, m: usize, r: usize)
+    requires { InChain (pool_of p.now) k m m r }
+    ensures { Leaves sink.old sink.new (emit (type_part (options_of p.now) (pool_of p.now) k m
         (expr_at (pool_of p.now) r))) }
 {
     sink.put_break(1);
-    pp_tail(p, sink, k, m, m, r, 0);
+    pp_tail(p, sink, &k, m, m, r, 0);
     sink.put_group();
     sink.put_join();
     sink.put_nest(p.indent)
 }
 
 // A value in the scope of the m binders that it was opened by, after a break.
-fn def_value(p: &Printer<'_>, sink: &mut Sink<'_>, k: &Stack, m: usize, r: usize)
-    requires { Asked (pool_of p.now) k.now m r }
-    ensures { Leaves sink.old sink.new (emit (value_part (options_of p.now) (pool_of p.now) k.now m
+fn def_value(p: &Printer<'_>, sink: &mut Sink<'_>, k: Stack, m: usize, r: usize)
+    requires { Asked (pool_of p.now) k m r }
+    ensures { Leaves sink.old sink.new (emit (value_part (options_of p.now) (pool_of p.now) k m
         (expr_at (pool_of p.now) r))) }
 {
     sink.put_break(1);
@@ -151,10 +150,10 @@ fn def_value(p: &Printer<'_>, sink: &mut Sink<'_>, k: &Stack, m: usize, r: usize
 }
 
 // The binders that left a type, and the colon.
-fn def_start(p: &Printer<'_>, sink: &mut Sink<'_>, k: &Stack, r: usize, count: usize)
-    requires { (InChain (pool_of p.now) k.now 0 0 r)
+fn def_start(p: &Printer<'_>, sink: &mut Sink<'_>, k: Stack, r: usize, count: usize)
+    requires { (InChain (pool_of p.now) k 0 0 r)
         × (count ≤ chain_length (expr_at (pool_of p.now) r)) }
-    ensures { Leaves sink.old sink.new (def_start (options_of p.now) (pool_of p.now) k.now count
+    ensures { Leaves sink.old sink.new (def_start (options_of p.now) (pool_of p.now) k count
         (expr_at (pool_of p.now) r)) }
 {
     if count == 0 {
@@ -168,12 +167,12 @@ fn def_start(p: &Printer<'_>, sink: &mut Sink<'_>, k: &Stack, r: usize, count: u
 }
 
 // The rest of a definition, up to its value: the type at row r without its first binders is at another row.
-fn def_rest(p: &Printer<'_>, sink: &mut Sink<'_>, k: &Stack, r: usize, row: usize, count: usize)
-    requires r_in_chain { (InChain (pool_of p.now) k.now 0 0 r)
+fn def_rest(p: &Printer<'_>, sink: &mut Sink<'_>, k: Stack, r: usize, row: usize, count: usize)
+    requires r_in_chain { (InChain (pool_of p.now) k 0 0 r)
         × (count ≤ chain_length (expr_at (pool_of p.now) r)) }
-    requires row_in_chain { (InChain (pool_of p.now) k.now count count row)
+    requires row_in_chain { (InChain (pool_of p.now) k count count row)
         × (expr_at (pool_of p.now) row ≡ drop_chain count (expr_at (pool_of p.now) r)) }
-    ensures { Leaves sink.old sink.new (emit (def_part (options_of p.now) (pool_of p.now) k.now count
+    ensures { Leaves sink.old sink.new (emit (def_part (options_of p.now) (pool_of p.now) k count
         (expr_at (pool_of p.now) r))) }
 {
     def_start(p, sink, k, r, count);
@@ -188,9 +187,9 @@ fn def_rest(p: &Printer<'_>, sink: &mut Sink<'_>, k: &Stack, r: usize, row: usiz
 }
 
 // The rest and the value of a definition.
-fn def_parts(p: &Printer<'_>, sink: &mut Sink<'_>, k: &Stack, r: usize, value: usize)
-    requires { (InChain (pool_of p.now) k.now 0 0 r) × (value < E (pool_of p.now).words) }
-    ensures { Leaves sink.old sink.new (def_parts (options_of p.now) (pool_of p.now) k.now (expr_at (pool_of p.now) r)
+fn def_parts(p: &Printer<'_>, sink: &mut Sink<'_>, k: Stack, r: usize, value: usize)
+    requires { (InChain (pool_of p.now) k 0 0 r) × (value < E (pool_of p.now).words) }
+    ensures { Leaves sink.old sink.new (def_parts (options_of p.now) (pool_of p.now) k (expr_at (pool_of p.now) r)
         (expr_at (pool_of p.now) value)) }
 {
     let end = taken(p, r, value);
@@ -204,10 +203,10 @@ fn def_parts(p: &Printer<'_>, sink: &mut Sink<'_>, k: &Stack, r: usize, value: u
 }
 
 // The first binders of a type, and the colon.
-fn axiom_start(p: &Printer<'_>, sink: &mut Sink<'_>, k: &Stack, r: usize, count: usize)
-    requires { (InChain (pool_of p.now) k.now 0 0 r)
+fn axiom_start(p: &Printer<'_>, sink: &mut Sink<'_>, k: Stack, r: usize, count: usize)
+    requires { (InChain (pool_of p.now) k 0 0 r)
         × (count ≤ chain_length (expr_at (pool_of p.now) r)) }
-    ensures { Leaves sink.old sink.new (axiom_start (options_of p.now) (pool_of p.now) k.now count
+    ensures { Leaves sink.old sink.new (axiom_start (options_of p.now) (pool_of p.now) k count
         (expr_at (pool_of p.now) r)) }
 {
     if count == 0 {
@@ -219,17 +218,17 @@ fn axiom_start(p: &Printer<'_>, sink: &mut Sink<'_>, k: &Stack, r: usize, count:
 }
 
 // The rest of another declaration: the type at row r without its first binders is at another row.
-fn axiom_rest(p: &Printer<'_>, sink: &mut Sink<'_>, k: &Stack, r: usize, row: usize, count: usize)
-    requires r_in_chain { (InChain (pool_of p.now) k.now 0 0 r)
+fn axiom_rest(p: &Printer<'_>, sink: &mut Sink<'_>, k: Stack, r: usize, row: usize, count: usize)
+    requires r_in_chain { (InChain (pool_of p.now) k 0 0 r)
         × (count ≤ chain_length (expr_at (pool_of p.now) r)) }
-    requires row_in_chain { (InChain (pool_of p.now) k.now count count row)
+    requires row_in_chain { (InChain (pool_of p.now) k count count row)
         × (expr_at (pool_of p.now) row ≡ drop_chain count (expr_at (pool_of p.now) r)) }
-    ensures { Leaves sink.old sink.new (emit (axiom_part (options_of p.now) (pool_of p.now) k.now count
+    ensures { Leaves sink.old sink.new (emit (axiom_part (options_of p.now) (pool_of p.now) k count
         (expr_at (pool_of p.now) r))) }
 {
     axiom_start(p, sink, k, r, count);
     join_line(sink);
-    pp_tail(p, sink, k, count, count, row, 0);
+    pp_tail(p, sink, &k, count, count, row, 0);
     sink.put_group();
     sink.put_join();
     sink.put_group();
@@ -265,7 +264,7 @@ pub fn main_def(p: &Printer<'_>, sink: &mut Sink<'_>, r: usize)
     }
     let k = chain_stack(p, type_row);
     let value = p.pool.words.declar(r, DECLAR_VALUE);
-    def_parts(p, sink, &k, type_row, value)
+    def_parts(p, sink, k, type_row, value)
 }
 
 // Another declaration.
@@ -287,6 +286,6 @@ pub fn main_axiom(p: &Printer<'_>, sink: &mut Sink<'_>, r: usize)
     let end = run_end(p, type_row, true);
     let row = end.row;
     let count = end.count;
-    axiom_rest(p, sink, &k, type_row, row, count);
+    axiom_rest(p, sink, k, type_row, row, count);
     sink.put_join()
 }

@@ -1,6 +1,6 @@
 // The listings: a whole expression, and a whole declaration.
 ghost use Rattle.std.specs.Prelude.{◌≡◌, ◌<◌};
-ghost use Rattle.pool.specs.Tables.{E, D};
+ghost use Rattle.pool.specs.Tables.{E, D, declar_word};
 ghost use Rattle.binders.specs.Options.{options_of, pool_of};
 ghost use Rattle.pool.specs.Unfold.{expr_at, declar_at, has_value};
 ghost use Rattle.document.specs.Leaves.{Leaves};
@@ -13,8 +13,7 @@ use crate::declars::{main_axiom, main_def};
 use binders::printer::Printer;
 use binders::stack::Stack;
 use document::sink::Sink;
-use pool::fields::DECLAR_KIND;
-use pool::kinds::{DECLAR_INDUCTIVE, DECLAR_THEOREM};
+use pool::kinds::DeclarKind;
 use pretty_printer::exprs::pp_expr;
 
 // What is printed: an expression or a declaration of the pool.
@@ -29,15 +28,18 @@ pub fn print_expr(p: &Printer<'_>, sink: &mut Sink<'_>, r: usize)
     requires { (r < E (pool_of p.now).words) }
     ensures { Leaves sink.old sink.new (emit (expr_doc (options_of p.now) (expr_at (pool_of p.now) r))) }
 {
-    pp_expr(p, sink, &Stack::empty(), 0, r, 0);
+    pp_expr(p, sink, Stack::empty(), 0, r, 0);
     sink.put_group()
 }
 
 // Theorems, definitions and opaque constants have a value.
-fn has_value(kind: usize) -> bool
-    ensures { result ≡ has_value kind }
+fn has_value(p: &Printer<'_>, r: usize) -> bool
+    ensures { result ≡ has_value (declar_word (pool_of p.now).words r 0) }
 {
-    (DECLAR_THEOREM..DECLAR_INDUCTIVE).contains(&kind)
+    matches!(
+        p.pool.words.declar_kind(r),
+        Some(DeclarKind::Theorem | DeclarKind::Definition | DeclarKind::Opaque)
+    )
 }
 
 // The listing of the declaration at row r.
@@ -45,8 +47,7 @@ pub fn print_declar(p: &Printer<'_>, sink: &mut Sink<'_>, r: usize)
     requires { (r < D (pool_of p.now).words) }
     ensures { Leaves sink.old sink.new (emit (declar_doc (options_of p.now) (declar_at (pool_of p.now) r))) }
 {
-    let kind = p.pool.words.declar(r, DECLAR_KIND);
-    if has_value(kind) {
+    if has_value(p, r) {
         main_def(p, sink, r);
         return sink.put_group();
     }

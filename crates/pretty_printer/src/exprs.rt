@@ -1,6 +1,6 @@
 // Expressions: one call cycle. Each call goes to a lower row, or on the same row from what follows a part of a chain to a part or an
-// expression, from an expression to a chain, from a chain to its parts, and from a part to its groups. The stack of names is lent: only a
-// chain and a let's body, which put names on it, copy it.
+// expression, from an expression to a chain, from a chain to its parts, and from a part to its groups. The stack of names goes by
+// value to each printer that 01 names and to a let's body, and is lent to the parts of one printer, which would but copy it once more.
 ghost use Rattle.std.specs.Prelude.{◌≡◌, true, ◌<◌, ◌≤◌};
 ghost use Rattle.pool.specs.Tables.{expr_word};
 ghost use Rattle.binders.specs.Options.{options_of, pool_of};
@@ -16,7 +16,7 @@ use binders::chain::{chain_length, is_binder, push_chain};
 use binders::group::{group_end, pp_names};
 use binders::leaves::pp_leaf;
 use binders::printer::Printer;
-use binders::runs::{is_arrow, level_of, part_end};
+use binders::runs::{is_arrow, is_pi, level_of, part_end};
 use binders::spine::spine_of;
 use binders::stack::Stack;
 use binders::vars::pp_bvar;
@@ -28,33 +28,26 @@ use pieces::puts::{
     put_assign, put_colon, start_let, start_run,
 };
 use pool::fields::{
-    BINDER_STYLE, BINDER_TYPE, EXPR_KIND, LET_BODY, LET_NAME, LET_TYPE, LET_VALUE, PROJ_INDEX,
-    PROJ_STRUCTURE, VAR_INDEX,
+    BINDER_STYLE, BINDER_TYPE, LET_BODY, LET_NAME, LET_TYPE, LET_VALUE, PROJ_INDEX, PROJ_STRUCTURE,
+    VAR_INDEX,
 };
-use pool::kinds::{EXPR_APP, EXPR_LAMBDA, EXPR_LET, EXPR_PI, EXPR_PROJ, EXPR_VAR};
+use pool::kinds::ExprKind;
 
 // The expression at row r, in a scope of the stack, under a level.
 #[cycle(exprs)]
-pub fn pp_expr(
-    p: &Printer<'_>,
-    sink: &mut Sink<'_>,
-    k: &Stack,
-    scope: usize,
-    r: usize,
-    outer: usize,
-)
-    requires { (Asked (pool_of p.now) k.now scope r) × (outer ≤ 1024) }
-    ensures { Leaves sink.old sink.new (emit (under outer (row_in (options_of p.now) (pool_of p.now) k.now scope r))) }
+pub fn pp_expr(p: &Printer<'_>, sink: &mut Sink<'_>, k: Stack, scope: usize, r: usize, outer: usize)
+    requires { (Asked (pool_of p.now) k scope r) × (outer ≤ 1024) }
+    ensures { Leaves sink.old sink.new (emit (under outer (row_in (options_of p.now) (pool_of p.now) k scope r))) }
 {
     if sink.is_stopped() {
         return;
     }
-    match p.pool.words.expr(r, EXPR_KIND) {
-        EXPR_VAR => pp_bvar(p, sink, k, scope, p.pool.words.expr(r, VAR_INDEX)),
-        EXPR_APP => pp_app(p, sink, k, scope, r, outer),
-        EXPR_PI | EXPR_LAMBDA => pp_chain(p, sink, k, scope, r, outer),
-        EXPR_LET => pp_let(p, sink, k, scope, r, outer),
-        EXPR_PROJ => {
+    match p.pool.words.expr_kind(r) {
+        Some(ExprKind::Var) => pp_bvar(p, sink, &k, scope, p.pool.words.expr(r, VAR_INDEX)),
+        Some(ExprKind::App) => pp_app(p, sink, k, scope, r, outer),
+        Some(ExprKind::Pi | ExprKind::Lambda) => pp_chain(p, sink, k, scope, r, outer),
+        Some(ExprKind::Let) => pp_let(p, sink, &k, scope, r, outer),
+        Some(ExprKind::Proj) => {
             let structure = p.pool.words.expr(r, PROJ_STRUCTURE);
             pp_expr(p, sink, k, scope, structure, 1024);
             end_proj(sink, p.pool.words.expr(r, PROJ_INDEX))
@@ -65,10 +58,10 @@ pub fn pp_expr(
 
 // An application: its head and its arguments, tiled.
 #[cycle(exprs)]
-fn pp_app(p: &Printer<'_>, sink: &mut Sink<'_>, k: &Stack, scope: usize, r: usize, outer: usize)
-    requires { (Asked (pool_of p.now) k.now scope r) × (outer ≤ 1024)
+fn pp_app(p: &Printer<'_>, sink: &mut Sink<'_>, k: Stack, scope: usize, r: usize, outer: usize)
+    requires { (Asked (pool_of p.now) k scope r) × (outer ≤ 1024)
         × (expr_word (pool_of p.now).words r 0 ≡ 3) }
-    ensures { Leaves sink.old sink.new (emit (under outer (row_in (options_of p.now) (pool_of p.now) k.now scope r))) }
+    ensures { Leaves sink.old sink.new (emit (under outer (row_in (options_of p.now) (pool_of p.now) k scope r))) }
 {
     let wrapped = outer > 1023;
     open_paren(sink, wrapped);
@@ -93,7 +86,7 @@ fn pp_let(p: &Printer<'_>, sink: &mut Sink<'_>, k: &Stack, scope: usize, r: usiz
     let wrapped = outer > 0;
     open_paren(sink, wrapped);
     pp_let_head(p, sink, k, scope, r);
-    pp_let_body(p, sink, k, scope, r);
+    pp_let_body(p, sink, *k, scope, r);
     sink.put_join();
     sink.put_group();
     close_paren(sink, wrapped)
@@ -113,18 +106,18 @@ fn pp_let_head(p: &Printer<'_>, sink: &mut Sink<'_>, k: &Stack, scope: usize, r:
     pp_name_safe(&p.pool, sink, name);
     put_colon(sink);
     let type_row = p.pool.words.expr(r, LET_TYPE);
-    pp_expr(p, sink, k, scope, type_row, 1);
+    pp_expr(p, sink, *k, scope, type_row, 1);
     put_assign(sink);
     let value = p.pool.words.expr(r, LET_VALUE);
-    pp_expr(p, sink, k, scope, value, 0);
+    pp_expr(p, sink, *k, scope, value, 0);
     end_let(sink, p.indent)
 }
 
 // Its body, before which its name comes into force.
 #[cycle(exprs)]
-fn pp_let_body(p: &Printer<'_>, sink: &mut Sink<'_>, k: &Stack, scope: usize, r: usize)
-    requires { (Asked (pool_of p.now) k.now scope r) × (expr_word (pool_of p.now).words r 0 ≡ 6) }
-    ensures { Leaves sink.old sink.new (let_body (options_of p.now) (pool_of p.now) k.now scope r
+fn pp_let_body(p: &Printer<'_>, sink: &mut Sink<'_>, mut k: Stack, scope: usize, r: usize)
+    requires { (Asked (pool_of p.now) k scope r) × (expr_word (pool_of p.now).words r 0 ≡ 6) }
+    ensures { Leaves sink.old sink.new (let_body (options_of p.now) (pool_of p.now) k scope r
         (name_at (pool_of p.now) (expr_word (pool_of p.now).words r 1))
         (expr_at (pool_of p.now) (expr_word (pool_of p.now).words r 4))) }
 {
@@ -133,18 +126,24 @@ fn pp_let_body(p: &Printer<'_>, sink: &mut Sink<'_>, k: &Stack, scope: usize, r:
     if sink.is_stopped() {
         return;
     }
-    let mut longer = *k;
-    longer.push(p.pool.words.expr(r, LET_NAME), scope);
+    k.push(p.pool.words.expr(r, LET_NAME), scope);
     let body = p.pool.words.expr(r, LET_BODY);
-    pp_expr(p, sink, &longer, count, body, 0)
+    pp_expr(p, sink, k, count, body, 0)
 }
 
 // A chain: its names come into force before its binders.
 #[cycle(exprs)]
-fn pp_chain(p: &Printer<'_>, sink: &mut Sink<'_>, k: &Stack, scope: usize, r: usize, outer: usize)
-    requires { (Asked (pool_of p.now) k.now scope r) × (outer ≤ 1024)
+fn pp_chain(
+    p: &Printer<'_>,
+    sink: &mut Sink<'_>,
+    mut k: Stack,
+    scope: usize,
+    r: usize,
+    outer: usize,
+)
+    requires { (Asked (pool_of p.now) k scope r) × (outer ≤ 1024)
         × (binder_kind (expr_word (pool_of p.now).words r 0) ≡ true) }
-    ensures { Leaves sink.old sink.new (emit (under outer (row_in (options_of p.now) (pool_of p.now) k.now scope r))) }
+    ensures { Leaves sink.old sink.new (emit (under outer (row_in (options_of p.now) (pool_of p.now) k scope r))) }
 {
     let arrow = is_arrow(p, r);
     let wrapped = outer > level_of(arrow);
@@ -155,9 +154,8 @@ fn pp_chain(p: &Printer<'_>, sink: &mut Sink<'_>, k: &Stack, scope: usize, r: us
     if sink.is_stopped() {
         return;
     }
-    let mut longer = *k;
-    push_chain(p, &mut longer, scope, r);
-    pp_binders(p, sink, &longer, scope, m, r, 0);
+    push_chain(p, &mut k, scope, r);
+    pp_binders(p, sink, &k, scope, m, r, 0);
     close_paren(sink, wrapped)
 }
 
@@ -176,10 +174,10 @@ pub fn pp_tail(
     ensures { Leaves sink.old sink.new (emit (under outer (chain_part (options_of p.now) (pool_of p.now) k.now scope m
         (expr_at (pool_of p.now) r)))) }
 {
-    if is_binder(p.pool.words.expr(r, EXPR_KIND)) {
+    if is_binder(p, r) {
         return pp_binders(p, sink, k, scope, m, r, outer);
     }
-    pp_expr(p, sink, k, scope, r, outer)
+    pp_expr(p, sink, *k, scope, r, outer)
 }
 
 // A part of a chain, an arrow binder or a run of others, and what follows it: its names are on the stack from entry m on, and its first
@@ -234,12 +232,12 @@ fn pp_part(
 {
     if arrow {
         let x = p.pool.words.expr(r, BINDER_TYPE);
-        pp_expr(p, sink, k, scope, x, 25);
+        pp_expr(p, sink, *k, scope, x, 25);
         return put_arrow(sink, p.indent);
     }
-    let pis = p.pool.words.expr(r, EXPR_KIND) == EXPR_PI;
+    let pis = is_pi(p, r);
     start_run(sink, pis);
-    telescope(p, sink, k, scope, m, r, n, true);
+    telescope(p, sink, *k, scope, m, r, n, true);
     end_run(sink, p.indent, pis)
 }
 
@@ -248,17 +246,17 @@ fn pp_part(
 pub fn telescope(
     p: &Printer<'_>,
     sink: &mut Sink<'_>,
-    k: &Stack,
+    k: Stack,
     scope: usize,
     m: usize,
     r: usize,
     n: usize,
     first: bool,
 )
-    requires { (InChain (pool_of p.now) k.now scope m r)
+    requires { (InChain (pool_of p.now) k scope m r)
         × (n ≤ chain_length (expr_at (pool_of p.now) r))
         × (first ≡ true → 0 < n) }
-    ensures { Leaves sink.old sink.new (groups_part (options_of p.now) (pool_of p.now) k.now first scope m n
+    ensures { Leaves sink.old sink.new (groups_part (options_of p.now) (pool_of p.now) k first scope m n
         (expr_at (pool_of p.now) r)) }
 {
     if n == 0 {

@@ -3,7 +3,7 @@ use Rattle.binders.proofs.chain.push_chain.Goals as goal
 
 pub loop-k-preserved : goal.loop-k-preserved
 loop-k-preserved c =
-    pushing_next c.args.p.now c.loop-k.invariant (cc) c.expr-in-loop-k.ensures.0 c.push.ensures c.expr-at.ensures.0
+    pushing_next c.args.p.now c.loop-k.invariant (cc) c.expr.ensures.0 c.push.ensures c.expr-at.ensures.0
 
 pub returns : goal.returns
 returns c = pushing_done c.args.p.now c.loop-k.invariant (cc)
