@@ -1,13 +1,17 @@
 -- The references of a call, as the contracts speak of them.
 use Rattle.std.specs.Prelude.{◌≡◌}
 use Rattle.basics.specs.Lent.{Area, Shared, was, left, held}
+use Rattle.lister.specs.declared.source.Source.{Source as Given}
 use Rattle.lister.specs.Answers.{Answer}
 use Rattle.lister.specs.Source.{Source}
 use Rattle.lister.specs.Prints.{Areas, Outcome}
 
--- what a call is given
-abbrev pub given : Shared → Shared → Source
-given bytes words = record { bytes = held bytes; words = held words }
+-- what a call is given, as a struct and one by one
+abbrev pub given : Given → Source
+given source = record { bytes = source.bytes.now; words = source.words.now }
+
+abbrev pub given_both : Shared → Shared → Source
+given_both bytes words = record { bytes = held bytes; words = held words }
 
 -- the lent areas, before and after the call
 abbrev pub lent_areas : Area → Area → Area → Areas

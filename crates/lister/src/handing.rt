@@ -5,6 +5,7 @@ ghost use Rattle.lister.specs.Handing.{has_text, text_span, has_string, string_s
 ghost use Rattle.lister.specs.Frames.{given};
 
 use crate::Part;
+use crate::source::Source;
 use document::check::Document;
 use document::measures::word_at;
 use pool::fields::{STRING_LENGTH, STRING_OFFSET};
@@ -45,10 +46,10 @@ pub fn text_span(document: &Document<'_>, r: usize) -> Part
 }
 
 // Where the bytes of string row r lie in `bytes`: nothing, at offset 0, unless the pool is accepted and has that row.
-pub fn string_span(bytes: &[u8], words: &[u32], r: usize) -> Part
-    ensures { result ≡ string_span (given bytes words) r }
+pub fn string_span(source: Source<'_>, r: usize) -> Part
+    ensures { result ≡ string_span (given source.entry) r }
 {
-    let Ok(pool) = pool_check::check(bytes, words) else {
+    let Ok(pool) = pool_check::check(source.bytes, source.words) else {
         return Part { offset: 0, size: 0 };
     };
     if pool.names.tables.strings <= r {

@@ -12,7 +12,7 @@ ghost use Rattle.pool_check.specs.Stages.{as_verdict};
 ghost use Rattle.lister.specs.Source.{judged};
 ghost use Rattle.lister.specs.Prints.{sizes_ok, print, has_root};
 ghost use Rattle.lister.specs.Handing.{span_of, hand_out};
-ghost use Rattle.lister.specs.Frames.{given, Prints};
+ghost use Rattle.lister.specs.Frames.{given, given_both, Prints};
 
 use checked::print_checked;
 use comparison::{CompareError, Pair};
@@ -26,9 +26,11 @@ use pool_check::PoolError;
 mod checked;
 pub mod error;
 mod handing;
+pub mod source;
 
 pub use declarations::listing::Root;
 pub use error::PrintError;
+pub use source::Source;
 
 // What is handed out: the text of a document's row, or a pool's string.
 #[derive(Clone, Copy, Debug, PartialEq, Eq)]
@@ -61,10 +63,10 @@ fn has_root(pool: &CheckedPool<'_>, root: Root) -> bool
     }
 }
 
-// Prints a root: its document into `rows` and `text`, its listing into `listing`.
+// Prints a root: its document into `rows` and `text`, its listing into `listing`. The three areas are lent one by one: of a struct that holds
+// them Rattle's borrow checker has no rule for lending one while another is read.
 pub fn print(
-    bytes: &[u8],
-    words: &[u32],
+    source: Source<'_>,
     root: Root,
     indent: usize,
     width: usize,
@@ -72,9 +74,9 @@ pub fn print(
     text: &mut [u8],
     listing: &mut [u8],
 ) -> Result<Counts, PrintError>
-    ensures { Prints rows text listing result (print (given bytes words) root indent width) }
+    ensures { Prints rows text listing result (print (given source.entry) root indent width) }
 {
-    let pool = pool_check::check(bytes, words)?;
+    let pool = pool_check::check(source.bytes, source.words)?;
     if !has_root(&pool, root) {
         return Err(PrintError::Root);
     }
@@ -85,10 +87,10 @@ pub fn print(
 }
 
 // The pool, where it is accepted, and else the first of the numbers 1 to 4 that refuses it, with its place.
-pub fn check<'a>(bytes: &'a [u8], words: &'a [u32]) -> Result<CheckedPool<'a>, PoolError>
-    ensures { as_verdict result ≡ judged (given bytes words) }
+pub fn check(source: Source<'_>) -> Result<CheckedPool<'_>, PoolError>
+    ensures { as_verdict result ≡ judged (given source.entry) }
 {
-    pool_check::check(bytes, words)
+    pool_check::check(source.bytes, source.words)
 }
 
 // Lays out a given document.
@@ -116,38 +118,46 @@ pub fn layout_pending(
 
 // Where the text of a document's row lies in its text, or a pool's string in `bytes`: nothing, at offset 0, unless document or pool is
 // accepted and has that row.
-pub fn hand_out_span(bytes: &[u8], words: &[u32], document: &Document<'_>, what: Handed) -> Part
-    ensures { result ≡ span_of (given bytes words) document.now.rows.now document.now.count document.now.text.now document.now.total what }
+pub fn hand_out_span(source: Source<'_>, document: &Document<'_>, what: Handed) -> Part
+    ensures { result ≡ span_of (given source.entry) document.now.rows.now document.now.count document.now.text.now document.now.total what }
 {
     match what {
         Handed::Text { row } => text_span(document, row),
-        Handed::String { row } => string_span(bytes, words, row),
+        Handed::String { row } => string_span(source, row),
     }
 }
 
-// Hands out that part of the document's text or of `bytes`.
+// Hands out that part of the document's text or of `bytes`. They are lent one by one, as these two alone have to live as long as the part.
 pub fn hand_out<'a>(
     bytes: &'a [u8],
     words: &[u32],
-    document: &Document<'a>,
+    rows: &[u32],
+    count: usize,
+    text: &'a [u8],
+    total: usize,
     what: Handed,
 ) -> &'a [u8]
-    ensures { result.now ≡ hand_out (given bytes words) document.now.rows.now document.now.count document.now.text.now document.now.total what }
+    ensures { result.now ≡ hand_out (given_both bytes words) rows.now count text.now total what }
 {
+    let document = Document {
+        rows,
+        count,
+        text,
+        total,
+    };
     match what {
-        Handed::Text { row } => part(document.text, text_span(document, row)),
-        Handed::String { row } => part(bytes, string_span(bytes, words, row)),
+        Handed::Text { row } => part(text, text_span(&document, row)),
+        Handed::String { row } => part(bytes, string_span(Source { bytes, words }, row)),
     }
 }
 
 // Compares two expression rows, from the back: the first pair of rows that differ, none where their trees are equal.
 pub fn compare(
-    bytes: &[u8],
-    words: &[u32],
+    source: Source<'_>,
     first: usize,
     second: usize,
 ) -> Result<Option<Pair>, CompareError>
-    ensures { result ≡ comparison bytes.now words.now first second }
+    ensures { result ≡ comparison source.entry.bytes.now source.entry.words.now first second }
 {
-    comparison::compare(bytes, words, first, second)
+    comparison::compare(source.bytes, source.words, first, second)
 }

@@ -63,16 +63,16 @@ abbrev pub answers : List ℕ → ℕ → List ℕ → LaidOut
 answers listing number out = record { number = number; listing = listing; out = out }
 
 pub layout_answer :
-    {v : Result Counts LayoutError} {listing : List ℕ} {o : Outcome} {r : Report} {last : List ℕ} (out : List ℕ)
+    {v : Result Counts LayoutError} {listing : List ℕ} {o : Outcome} {n : ℕ} {last : List ℕ} (out : List ℕ)
     → outcome_of v listing ≡ o
-    → r ≡ of_laid v
-    → last ≡ put out r
-    → answers listing r.number last ≡ laid o out
+    → n ≡ (of_laid v).number
+    → last ≡ put out (of_laid v)
+    → answers listing n last ≡ laid o out
 unfolding laid of_laid
-layout_answer {v} {listing} {o} {r} out outcome report filled =
-    ap (answers listing r.number) filled
-    ∙ ap (λ (x : Report). answers listing x.number (put out x)) report
-    ∙ ap (λ (n : ℕ). answers listing n (put out (of_laid v))) (laid_number v)
+layout_answer {v} {listing} {o} {n} out outcome number filled =
+    ap (answers listing n) filled
+    ∙ ap (λ (k : ℕ). answers listing k (put out (of_laid v))) number
+    ∙ ap (λ (k : ℕ). answers listing k (put out (of_laid v))) (laid_number v)
     ∙ ap (λ (x : Outcome). laid x out) outcome
 
 abbrev pub pending_outcome : Result Counts PendingError → List ℕ → List ℕ → pendings.Outcome
@@ -82,16 +82,16 @@ abbrev pub pending_answers : List ℕ → List ℕ → ℕ → List ℕ → Laid
 pending_answers listing pending number out = record { number = number; listing = listing; pending = pending; out = out }
 
 pub layout_pending_answer :
-    {v : Result Counts PendingError} {listing pending : List ℕ} {o : pendings.Outcome} {r : Report} {last : List ℕ} (out : List ℕ)
+    {v : Result Counts PendingError} {listing pending : List ℕ} {o : pendings.Outcome} {n : ℕ} {last : List ℕ} (out : List ℕ)
     → pending_outcome v listing pending ≡ o
-    → r ≡ of_laid_pending v
-    → last ≡ put out r
-    → pending_answers listing pending r.number last ≡ laid_pending o out
+    → n ≡ (of_laid_pending v).number
+    → last ≡ put out (of_laid_pending v)
+    → pending_answers listing pending n last ≡ laid_pending o out
 unfolding laid_pending of_laid_pending
-layout_pending_answer {v} {listing} {pending} {o} {r} out outcome report filled =
-    ap (pending_answers listing pending r.number) filled
-    ∙ ap (λ (x : Report). pending_answers listing pending x.number (put out x)) report
-    ∙ ap (λ (n : ℕ). pending_answers listing pending n (put out (of_laid_pending v))) (pending_number v)
+layout_pending_answer {v} {listing} {pending} {o} {n} out outcome number filled =
+    ap (pending_answers listing pending n) filled
+    ∙ ap (λ (k : ℕ). pending_answers listing pending k (put out (of_laid_pending v))) number
+    ∙ ap (λ (k : ℕ). pending_answers listing pending k (put out (of_laid_pending v))) (pending_number v)
     ∙ ap (λ (x : pendings.Outcome). laid_pending x out) outcome
 
 abbrev pub print_outcome : numbers.Answer → prints.Areas → prints.Outcome
@@ -101,16 +101,16 @@ abbrev pub print_answers : prints.Areas → ℕ → List ℕ → Printed
 print_answers areas number out = record { number = number; areas = areas; out = out }
 
 pub print_answer :
-    {v : numbers.Answer} {areas : prints.Areas} {o : prints.Outcome} {r : Report} {last : List ℕ} (out : List ℕ)
+    {v : numbers.Answer} {areas : prints.Areas} {o : prints.Outcome} {n : ℕ} {last : List ℕ} (out : List ℕ)
     → print_outcome v areas ≡ o
-    → r ≡ of_answer v
-    → last ≡ put out r
-    → print_answers areas r.number last ≡ printed o out
+    → n ≡ (of_answer v).number
+    → last ≡ put out (of_answer v)
+    → print_answers areas n last ≡ printed o out
 unfolding printed of_answer
-print_answer {v} {areas} {o} {r} out outcome report filled =
-    ap (print_answers areas r.number) filled
-    ∙ ap (λ (x : Report). print_answers areas x.number (put out x)) report
-    ∙ ap (λ (n : ℕ). print_answers areas n (put out (of_answer v))) (print_number v)
+print_answer {v} {areas} {o} {n} out outcome number filled =
+    ap (print_answers areas n) filled
+    ∙ ap (λ (k : ℕ). print_answers areas k (put out (of_answer v))) number
+    ∙ ap (λ (k : ℕ). print_answers areas k (put out (of_answer v))) (print_number v)
     ∙ ap (λ (x : prints.Outcome). printed x out) outcome
 
 pub hand_out_answer :

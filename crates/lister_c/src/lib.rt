@@ -9,17 +9,17 @@ ghost use Rattle.layout.specs.Call.{outcome};
 ghost use Rattle.layout_pending.specs.Call.{outcome_pending};
 ghost use Rattle.basics.specs.Lent.{was, left};
 ghost use Rattle.lister.specs.Source.{judged};
-ghost use Rattle.lister.specs.Prints.{print_expr, print_declar};
-ghost use Rattle.lister.specs.Frames.{given};
+ghost use Rattle.lister.specs.Prints.{print, print_expr, print_declar};
+ghost use Rattle.lister.specs.Frames.{given, given_both};
 ghost use Rattle.lister_c.specs.Reports.{of_verdict, kind_span, pair_words};
 ghost use Rattle.pool_check.specs.Check.{verdict};
 ghost use Rattle.lister_c.specs.Frames.{Checks, LaysOut, LaysOutPending, Prints, HandsOut, ComparesRows};
 
 use comparison::{CompareError, Pair};
 use document::check::Document;
-use lister::{Handed, Part, Root};
+use lister::{Handed, Part, Root, Source};
 use refusals::Refusal;
-use reports::{Report, done, fill, no_counts, put_words, refused, reported};
+use reports::{Report, done, fill, no_counts, put_report, put_words, refused};
 
 pub mod refusals;
 pub mod reports;
@@ -37,7 +37,7 @@ fn of_check(bytes: &[u8], words: &[u32]) -> Report
 // Whether a pool is accepted.
 #[unsafe(no_mangle)]
 pub extern "C" fn tilusorgu_check(bytes: &[u8], words: &[u32], out: &mut [u64]) -> u32
-    ensures { Checks out result (judged (given bytes words)) }
+    ensures { Checks out result (judged (given_both bytes words)) }
 {
     let report = of_check(bytes, words);
     fill(out, report);
@@ -63,9 +63,7 @@ pub extern "C" fn tilusorgu_layout(
         text,
         total: total as usize,
     };
-    let report = reported(&lister::layout(&document, width as usize, listing));
-    fill(out, report);
-    report.number
+    put_report(out, &lister::layout(&document, width as usize, listing))
 }
 
 // Lays it out with its pending rows in a lent area, and without deep calls.
@@ -88,9 +86,35 @@ pub extern "C" fn tilusorgu_layout_pending(
         text,
         total: text_count as usize,
     };
-    let report = reported(&lister::layout_pending(&document, width as usize, pending, listing));
-    fill(out, report);
-    report.number
+    put_report(
+        out,
+        &lister::layout_pending(&document, width as usize, pending, listing),
+    )
+}
+
+// Prints a root.
+fn print_root(
+    source: Source<'_>,
+    root: Root,
+    indent: u32,
+    width: u32,
+    rows: &mut [u32],
+    text: &mut [u8],
+    listing: &mut [u8],
+    out: &mut [u64],
+) -> u32
+    ensures { Prints rows text listing out result (print (given source.entry) root indent width) }
+{
+    let answer = lister::print(
+        source,
+        root,
+        indent as usize,
+        width as usize,
+        rows,
+        text,
+        listing,
+    );
+    put_report(out, &answer)
 }
 
 // Prints the expression at row `root`.
@@ -106,21 +130,11 @@ pub extern "C" fn tilusorgu_print_expr(
     listing: &mut [u8],
     out: &mut [u64],
 ) -> u32
-    ensures { Prints rows text listing out result (print_expr (given bytes words) root indent width) }
+    ensures { Prints rows text listing out result (print_expr (given_both bytes words) root indent width) }
 {
+    let source = Source { bytes, words };
     let root = Root::Expr { row: root as usize };
-    let report = reported(&lister::print(
-        bytes,
-        words,
-        root,
-        indent as usize,
-        width as usize,
-        rows,
-        text,
-        listing,
-    ));
-    fill(out, report);
-    report.number
+    print_root(source, root, indent, width, rows, text, listing, out)
 }
 
 // Prints the declaration at row `root`.
@@ -136,31 +150,21 @@ pub extern "C" fn tilusorgu_print_declar(
     listing: &mut [u8],
     out: &mut [u64],
 ) -> u32
-    ensures { Prints rows text listing out result (print_declar (given bytes words) root indent width) }
+    ensures { Prints rows text listing out result (print_declar (given_both bytes words) root indent width) }
 {
+    let source = Source { bytes, words };
     let root = Root::Declar { row: root as usize };
-    let report = reported(&lister::print(
-        bytes,
-        words,
-        root,
-        indent as usize,
-        width as usize,
-        rows,
-        text,
-        listing,
-    ));
-    fill(out, report);
-    report.number
+    print_root(source, root, indent, width, rows, text, listing, out)
 }
 
 // Where what a kind hands out lies: 0 the text of a document's row, 1 a pool's string, any other nothing.
 #[tactic(auto, unfolding(crate::specs::Reports::kind_span))]
-fn kind_span(bytes: &[u8], words: &[u32], document: &Document<'_>, kind: u32, row: usize) -> Part
-    ensures { result ≡ kind_span (given bytes words) document.now.rows.now document.now.count document.now.text.now document.now.total kind row }
+fn kind_span(source: Source<'_>, document: &Document<'_>, kind: u32, row: usize) -> Part
+    ensures { result ≡ kind_span (given source.entry) document.now.rows.now document.now.count document.now.text.now document.now.total kind row }
 {
     match kind {
-        0 => lister::hand_out_span(bytes, words, document, Handed::Text { row }),
-        1 => lister::hand_out_span(bytes, words, document, Handed::String { row }),
+        0 => lister::hand_out_span(source, document, Handed::Text { row }),
+        1 => lister::hand_out_span(source, document, Handed::String { row }),
         _ => Part { offset: 0, size: 0 },
     }
 }
@@ -178,7 +182,7 @@ pub extern "C" fn tilusorgu_hand_out(
     row: u32,
     out: &mut [u64],
 ) -> u32
-    ensures { HandsOut out result (kind_span (given bytes words) rows.now row_count text.now text_count kind row) }
+    ensures { HandsOut out result (kind_span (given_both bytes words) rows.now row_count text.now text_count kind row) }
 {
     let document = Document {
         rows,
@@ -186,7 +190,7 @@ pub extern "C" fn tilusorgu_hand_out(
         text,
         total: text_count as usize,
     };
-    let part = kind_span(bytes, words, &document, kind, row as usize);
+    let part = kind_span(Source { bytes, words }, &document, kind, row as usize);
     put_words(
         out,
         &[0, 0, part.offset as u64, part.size as u64, 0, 0, 0, 0],
@@ -237,7 +241,7 @@ pub extern "C" fn tilusorgu_compare(
 ) -> u32
     ensures { ComparesRows out result (comparison bytes.now words.now first second) }
 {
-    let answer = lister::compare(bytes, words, first as usize, second as usize);
+    let answer = lister::compare(Source { bytes, words }, first as usize, second as usize);
     let words = pair_words(&answer);
     put_words(out, &words);
     number_of(&answer)

@@ -49,7 +49,7 @@ pub(crate) fn done(counts: Counts) -> Report
     }
 }
 
-pub(crate) fn reported<E: Refusal>(answer: &Result<Counts, E>) -> Report
+fn reported<E: Refusal>(answer: &Result<Counts, E>) -> Report
     ensures { result ≡ reported E.number_of E.place_of answer.now }
 {
     match answer {
@@ -83,4 +83,14 @@ pub(crate) fn fill(out: &mut [u64], r: Report)
         c.tests as u64,
     ];
     put_words(out, &words);
+}
+
+// Puts what a call answers over the first eight words, and tells its number.
+pub(crate) fn put_report<E: Refusal>(out: &mut [u64], answer: &Result<Counts, E>) -> u32
+    ensures number { result ≡ (reported E.number_of E.place_of answer.now).number }
+    ensures words { left out ≡ put (was out) (reported E.number_of E.place_of answer.now) }
+{
+    let report = reported(answer);
+    fill(out, report);
+    report.number
 }

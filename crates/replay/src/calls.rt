@@ -3,7 +3,7 @@ use crate::areas::{Areas, Lent};
 use crate::input::Pool;
 use crate::record::{Ask, Call, Head, Reply};
 use layout::Counts;
-use lister::{PrintError, Root};
+use lister::{PrintError, Source};
 use pool_check::PoolError;
 
 // What check says.
@@ -47,8 +47,7 @@ fn reply_of(answer: Result<Counts, PrintError>) -> Reply {
 
 fn print(bytes: &[u8], words: &[u32], ask: Ask, lent: &mut Lent<'_>) -> Result<Counts, PrintError> {
     lister::print(
-        bytes,
-        words,
+        Source { bytes, words },
         ask.root,
         ask.indent,
         ask.width,

@@ -1,12 +1,13 @@
 -- A run as the contract of a function speaks of it: what the references of its call were, and are.
 use Rattle.std.specs.Prelude.{ℕ, true, ◌≡◌}
-use Rattle.basics.specs.Lent.{Area, Shared}
+use Rattle.basics.specs.Lent.{Area}
 use Rattle.declarations.specs.declared.listing.Root.{Root}
 use Rattle.declarations.specs.declared.listing.Root.TheVariants.{Expr, Declar}
 use Rattle.lister.specs.Answers.{Answer}
 use Rattle.lister.specs.Frames.{given, lent_areas, left_areas}
 use Rattle.lister.specs.Prints.{sizes_ok}
 use Rattle.third_property.specs.ThirdProperty.{Print, expression, declaration, Run, Rooted, OneRun}
+use Rattle.runs.specs.declared.Call.{Call}
 use Rattle.runs.specs.declared.kind.Kind.{Kind}
 use Rattle.runs.specs.declared.kind.Kind.TheVariants.{Expression, Declaration}
 use Rattle.third_property.specs.Success.{Decided}
@@ -20,13 +21,13 @@ abbrev pub root_of : Kind → ℕ → Root
 root_of Expression row = Expr row
 root_of Declaration row = Declar row
 
-abbrev pub run_with : (k : Print) → Shared → Shared → ℕ → ℕ → ℕ → Area → Area → Area → Answer → Run k
-run_with k bytes words root indent width rows text listing v =
+abbrev pub run_with : (k : Print) → Call → Area → Area → Area → Answer → Run k
+run_with k call rows text listing v =
     record {
-      source = given bytes words;
-      root = root;
-      indent = indent;
-      width = width;
+      source = given call.source;
+      root = call.root;
+      indent = call.indent;
+      width = call.width;
       lent = lent_areas rows text listing;
       answer = v;
       left = left_areas rows text listing;

@@ -12,7 +12,7 @@ use document::check::Document;
 use kind::Kind;
 use layout::{Counts, LayoutError};
 use layout_pending::PendingError;
-use lister::{PrintError, print};
+use lister::{PrintError, Source, print};
 
 pub mod kind;
 
@@ -23,52 +23,76 @@ pub struct Answers {
     pub second: Result<Counts, PrintError>,
 }
 
+// What a call of a print is asked: the pool, the row of its root, and the sizes. The areas that it is lent stay apart (see `lister::print`).
+#[derive(Clone, Copy)]
+pub struct Call<'a> {
+    pub source: Source<'a>,
+    pub root: usize,
+    pub indent: usize,
+    pub width: usize,
+}
+
 // One call of a print: its clauses, and when it succeeds.
 pub fn once(
     kind: Kind,
-    bytes: &[u8],
-    words: &[u32],
-    root: usize,
-    indent: usize,
-    width: usize,
+    call: Call<'_>,
     rows: &mut [u32],
     text: &mut [u8],
     listing: &mut [u8],
 ) -> Result<Counts, PrintError>
-    ensures { OneCall (run_with (print_of kind) bytes words root indent width rows text listing result) }
+    ensures { OneCall (run_with (print_of kind) call.entry rows text listing result) }
 {
-    let root = kind.root(root);
-    print(bytes, words, root, indent, width, rows, text, listing)
+    let root = kind.root(call.root);
+    print(
+        call.source,
+        root,
+        call.indent,
+        call.width,
+        rows,
+        text,
+        listing,
+    )
 }
 
 // Two calls of a print.
 pub fn twice(
     kind: Kind,
-    bytes: &[u8],
-    words: &[u32],
-    root: usize,
-    indent: usize,
-    width: usize,
+    first: Call<'_>,
     rows: &mut [u32],
     text: &mut [u8],
     listing: &mut [u8],
-    bytes2: &[u8],
-    words2: &[u32],
-    root2: usize,
-    indent2: usize,
-    width2: usize,
+    second: Call<'_>,
     rows2: &mut [u32],
     text2: &mut [u8],
     listing2: &mut [u8],
 ) -> Answers
-    ensures { TwoRuns (run_with (print_of kind) bytes words root indent width rows text listing result.first)
-        (run_with (print_of kind) bytes2 words2 root2 indent2 width2 rows2 text2 listing2 result.second) }
+    ensures { TwoRuns (run_with (print_of kind) first.entry rows text listing result.first)
+        (run_with (print_of kind) second.entry rows2 text2 listing2 result.second) }
 {
-    let at = kind.root(root);
-    let first = print(bytes, words, at, indent, width, rows, text, listing);
-    let at2 = kind.root(root2);
-    let second = print(bytes2, words2, at2, indent2, width2, rows2, text2, listing2);
-    Answers { first, second }
+    let root = kind.root(first.root);
+    let one = print(
+        first.source,
+        root,
+        first.indent,
+        first.width,
+        rows,
+        text,
+        listing,
+    );
+    let root = kind.root(second.root);
+    let two = print(
+        second.source,
+        root,
+        second.indent,
+        second.width,
+        rows2,
+        text2,
+        listing2,
+    );
+    Answers {
+        first: one,
+        second: two,
+    }
 }
 
 // What the two layouts answer.

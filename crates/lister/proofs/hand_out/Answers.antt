@@ -6,12 +6,10 @@ pub returns-in-Text : goal.returns-in-Text
 unfolding hand_out span_of area_of
 returns-in-Text c =
     let a = c.args in
-    let d = a.document.now in
-    c.part.ensures ∙ ap (part_of d.text.now) c.text_span.ensures ∙ sym (ap (hand_out (record { bytes = a.bytes.now; words = a.words.now }) d.rows.now d.count d.text.now d.total) c.in-Text.is)
+    c.part.ensures ∙ ap (part_of a.text.now) c.text_span.ensures ∙ sym (ap (hand_out (record { bytes = a.bytes.now; words = a.words.now }) a.rows.now a.count a.text.now a.total) c.in-Text.is)
 
 pub returns-in-String : goal.returns-in-String
 unfolding hand_out span_of area_of
 returns-in-String c =
     let a = c.args in
-    let d = a.document.now in
-    c.part-in-String.ensures ∙ ap (part_of a.bytes.now) c.string_span.ensures ∙ sym (ap (hand_out (record { bytes = a.bytes.now; words = a.words.now }) d.rows.now d.count d.text.now d.total) c.in-String.is)
+    c.part-in-String.ensures ∙ ap (part_of a.bytes.now) c.string_span.ensures ∙ sym (ap (hand_out (record { bytes = a.bytes.now; words = a.words.now }) a.rows.now a.count a.text.now a.total) c.in-String.is)

@@ -1,4 +1,5 @@
 use mathlib.Core.Path.{sym, ap, ◌∙◌}
+use Rattle.lister.specs.Frames.{given}
 use Rattle.lister.specs.Handing.{span_of}
 use Rattle.lister.proofs.hand_out_span.Goals as goal
 
@@ -7,11 +8,11 @@ unfolding span_of
 returns-in-Text c =
     let a = c.args in
     let d = a.document.now in
-    c.text_span.ensures ∙ sym (ap (span_of (record { bytes = a.bytes.now; words = a.words.now }) d.rows.now d.count d.text.now d.total) c.in-Text.is)
+    c.text_span.ensures ∙ sym (ap (span_of (given a.source) d.rows.now d.count d.text.now d.total) c.in-Text.is)
 
 pub returns-in-String : goal.returns-in-String
 unfolding span_of
 returns-in-String c =
     let a = c.args in
     let d = a.document.now in
-    c.string_span.ensures ∙ sym (ap (span_of (record { bytes = a.bytes.now; words = a.words.now }) d.rows.now d.count d.text.now d.total) c.in-String.is)
+    c.string_span.ensures ∙ sym (ap (span_of (given a.source) d.rows.now d.count d.text.now d.total) c.in-String.is)

@@ -4,4 +4,4 @@ use Rattle.lister_c.proofs.tilusorgu_layout_pending.Goals as goal
 
 pub returns : goal.returns
 unfolding of_laid_pending
-returns c = layout_pending_answer c.args.out.now c.layout_pending.ensures c.reported-report.ensures c.fill.ensures
+returns c = layout_pending_answer c.args.out.now c.layout_pending.ensures c.put_report.ensures.number c.put_report.ensures.words
