@@ -1,11 +1,13 @@
 #!/usr/bin/env python3
 """Writes docs/DESIGN-PASS-LISTS.md: what changed at the boundaries of the crates, old beside new. It proves nothing: it compares texts.
 
-usage: python3 tools/design-pass.py [OLD-COMMIT]      at the top of the repository; the new side is the work tree
+usage: python3 tools/design-pass.py [--unpaired] [OLD-COMMIT]      at the top of the repository; the new side is the work tree
 
 Compared are public functions and types, definitions of specs/, and public statements of proofs/. An item is found again at its place, else by
 its type and name in its crate, else by what design-pass-pairs.txt beside this script says: crate::path::name, a tab, the new
-crate::path::name, or `=` and where its promise stands now; a second tab, a remark. Items of specs and proofs are crate/File.name there."""
+crate::path::name, or `=` and where its promise stands now; a second tab, a remark. Items of specs and proofs are crate/File.name there, and
+{a, b} in a name stands for either. Of what no other crate, or no other file of proofs, can name the page says only what went, and what states its
+promise now. With --unpaired nothing is written: what went and is not paired is listed, and the exit status is 1 where there is any."""
 import collections
 import io
 import pathlib
@@ -158,14 +160,19 @@ def statements(crate, folder, files):
     out = []
     for n in sorted(files):
         m = re.fullmatch(rf'crates/{crate}/{folder}/(.*)\.antt', n)
-        if not m or '/' in m[1] and re.search(r'(Answers|Invariants)$', m[1]):
+        if not m:
             continue
-        blocks, modules, now = [], [], None
+        answers = folder == 'proofs' and '/' in m[1] and re.search(r'(Answers|Invariants)$', m[1])
+        blocks, modules, now, header = [], [], None, False
         for line in files[n].split('\n'):
             line = re.sub(r'(^|\s)--(\s.*|-.*)?$', '', line).rstrip()
             if not line.strip():
                 continue
             deep = len(line) - len(line.lstrip())
+            if header:  # the head of a module goes on
+                modules[-1][1] += ' ' + line.strip()
+                header = not line.endswith('where')
+                continue
             if now and deep > now[0]:
                 now[3].append(line)
                 continue
@@ -174,9 +181,8 @@ def statements(crate, folder, files):
             if not s:
                 s = re.match(r"\s*((?:(?:abbrev|opaque|unfoldable|pub)\s+)+)()()([^\s:(){},.=|]+)$", line)
             if line.lstrip().startswith(('module ', 'pub module ')):
-                now = [deep, None, False, [line], [x[1] for x in modules]]
-                modules.append((deep, line.strip()))
-                now = None if line.endswith('where') else now
+                now, header = None, not line.endswith('where')
+                modules.append([deep, line.strip()])
             elif s and (s[3] or s[4]) not in ('use', 'mod', 'open', 'let', 'macro', 'unfolding'):
                 now = [deep, s[3] or s[4], 'pub' in s[1].split(), [line], [x[1] for x in modules]]
                 blocks.append(now)
@@ -185,8 +191,8 @@ def statements(crate, folder, files):
             elif now:
                 now[3].append(line)
         for deep, name, pub, lines, inside in blocks:
-            if not name:
-                continue
+            if not name or answers and re.search(r':\s*goal\.', lines[0]):
+                continue  # what a goal is answered by is no lemma
             if folder == 'proofs':  # the statement alone
                 lines = lines[:1] + [x for x in lines[1:next((k for k, x in enumerate(lines[1:], 1) if len(x) - len(x.lstrip()) <= deep), len(lines))]]
             text = '\n'.join([re.sub(r'^\s*(pub )?module \S+ ?', 'given ', x).replace(' where', '') for x in inside if '(' in x or '{' in x] + [x[deep:] for x in lines])
@@ -205,13 +211,12 @@ def read(files, crates):
 
 # ---- old beside new
 
-def pair(olds, news, table):
-    """Each public old item with its state, the new one if any, and a remark."""
-    used, told, found = set(), set(), {}
-    public = [i for i in olds if i.public]
+def pair(olds, news, table, used, told):
+    """Each old item with its state, the new one if any, and a remark. What is found by name alone is used once."""
+    found = {}
     squeezed = lambda i: ' '.join(tokens(i.text))  # noqa: E731
     by_path = {j.path: j for j in reversed(news)}
-    for n, i in enumerate(public):
+    for n, i in enumerate(olds):
         to, remark = table.get(i.path, ('', ''))
         if to.startswith('='):
             found[n] = (None, to[1:].strip() + remark)
@@ -227,7 +232,7 @@ def pair(olds, news, table):
         for j in news:
             if id(j) not in used:
                 by_name[j.name].append(j)
-        for n, i in enumerate(public):
+        for n, i in enumerate(olds):
             if n in found:
                 continue
             j = next((j for j in sorted(by_name[i.name], key=lambda j: not j.public) if id(j) not in used and test(i, j)), None)
@@ -235,17 +240,41 @@ def pair(olds, news, table):
                 found[n] = (j, '')
                 used.add(id(j))
     rows = []
-    for n, i in enumerate(public):
+    for n, i in enumerate(olds):
         j, remark = found.get(n, (None, ''))
         if not j:
             rows.append((i, None, 'gone', remark))
             continue
         same = squeezed(i) == squeezed(j)
-        moved = i.path != j.path or not j.public
+        moved = i.path != j.path or i.public != j.public
         words = None if same else respelled(i.text, j.text)
         state = ('moved' if moved else 'same') if same else 'spelling' if words is not None else 'moved and changed' if moved else 'changed'
         rows.append((i, j, state, remark or (', '.join(f'{a} → {b}' for a, b in words.items()) if words else '')))
-    return rows, [j for j in news if j.public and id(j) not in used | told]
+    return rows
+
+
+def either(name):
+    """The names that one with {a, b} stands for."""
+    m = re.search(r'\{([^}]*)\}', name)
+    return [name] if not m else [x for w in m[1].split(',') for x in either(name[:m.start()] + w.strip() + name[m.end():])]
+
+
+def read_pairs(file, olds, news, crates):
+    """What the file says of each old name. A name in it that nothing has, or had, is said."""
+    table, names, went = {}, {i.path for i in news}, {i.path for i in olds}
+    for line in file.read_text().split('\n') if file.exists() else []:
+        if not line.strip() or line.startswith('#'):
+            continue
+        cells = line.split('\t') + ['', '']
+        for name in either(cells[0]):
+            if name in table or name not in went:
+                print('pairs: twice, or nothing had the name', name, file=sys.stderr)
+            table[name] = (cells[1], cells[2])
+        for span in re.findall(r'`([^`]+)`', cells[1] + cells[2]):
+            for name in either(span) if re.match(r'\w*', span)[0] in crates and re.fullmatch(r'\w+(::\w+)+(::\{[^}]*\})?|\w+/[\w/+]+\..+', span) else []:
+                if name not in names:
+                    print('pairs: nothing has the name', name, file=sys.stderr)
+    return table
 
 
 def short(text):
@@ -266,64 +295,94 @@ def beside(out, row, language):
     out.append('```\n')
 
 
+def last(path, crate=''):
+    """A path as its own crate's part of the page names it."""
+    return path.split('/', 1)[1] if '/' in path and path.split('/')[0] == crate else path
+
+
+def went(out, label, rows):
+    """What went, with what states its promise now: a line for each answer."""
+    if not rows:
+        return
+    hidden = sum(not r[0].public for r in rows) if '/' in rows[0][0].path else 0
+    out.append(f'{label} ({len(rows)}' + (f', {hidden} of them inside their file' if hidden else '') + '), and what states their promise now:\n')
+    by = {}
+    for i, j, state, remark in rows:
+        answer = (f'`{last(j.path, i.place[0])}`' + (f', {remark}' if remark else '')) if j else remark or 'not paired'
+        by.setdefault(answer, []).append(f'`{last(i.path, i.place[0])}`')
+    out.extend(f"- {', '.join(names)}: {answer}" for answer, names in by.items())
+    out.append('')
+
+
 def main():
-    commit = sys.argv[1] if len(sys.argv) > 1 else OLD
+    words = [w for w in sys.argv[1:] if w != '--unpaired']
+    commit = words[0] if words else OLD
     old, new = old_files(commit), new_files()
     crates = [m[1] for m in re.finditer(r'(?m)^(\w+)[^:\n]*:', new['crates.txt'])]
     olds, news = read(old, crates), read(new, crates)
     pages = [old[n] for n in old if n == 'README.md' or re.fullmatch(r'docs/[^/]*\.md', n)]
-    told = {w for p in pages for span in re.findall(r'`([^`\n]+)`', p) for w in re.findall(r"[A-Za-z_][\w'+-]*", span)}
-    table = {}
-    pairs = TOP / 'tools/design-pass-pairs.txt'
-    for line in pairs.read_text().split('\n') if pairs.exists() else []:
-        if line.strip() and not line.startswith('#'):
-            cells = line.split('\t') + ['', '']
-            table[cells[0]] = (cells[1], cells[2])
-    results = {k: pair(olds[k], news[k], table) for k in KINDS}
+    named = {w for p in pages for span in re.findall(r'`([^`\n]+)`', p) for w in re.findall(r"[A-Za-z_][\w'+-]*", span)}
+    table = read_pairs(TOP / 'tools/design-pass-pairs.txt', sum(olds.values(), []), sum(news.values(), []), crates)
+    results, inside = {}, {}
+    for k in KINDS:
+        used, told = set(), set()
+        rows = pair([i for i in olds[k] if i.public], news[k], table, used, told)
+        results[k] = rows, [j for j in news[k] if j.public and id(j) not in used | told]
+        inside[k] = pair([i for i in olds[k] if not i.public], news[k], table, used, told)
+    unpaired = [f'not paired: {k} {i.path}' for k in KINDS for i, j, state, remark in results[k][0] + inside[k] if state == 'gone' and not remark]
+    if '--unpaired' in sys.argv:
+        print('\n'.join(unpaired + [f'{len(unpaired)} not paired']))
+        sys.exit(bool(unpaired))
     states = ['same', 'spelling', 'moved', 'changed', 'moved and changed', 'gone']
     out = ['# The lists of the design pass\n', f'What stood at `{commit[:7]}` beside what stands now, by crate, lowest first. `tools/design-pass.py` writes this page.\n',
            'A line with `-` is old, one with `+` new. *Spelling*: nothing but names changed, each to one other. *Moved*: the same text at another place. '
-           'A function or type counts as public where callers of its crate can name it; programs have none.\n',
+           'A function or type counts as public where callers of its crate can name it; programs have none. A theorem counts as public where other files can cite it. '
+           'Of the others only those that went, or stand under another name, are listed.\n',
            '| | old | ' + ' | '.join(states) + ' | new ones |', '|---|' + '---:|' * (len(states) + 2)]
     for k in KINDS:
         rows, fresh = results[k]
         n = collections.Counter(r[2] for r in rows)
-        out.append(f'| {"public " if k not in ("definitions",) else ""}{k} | {len(rows)} | ' + ' | '.join(str(n[s]) for s in states) + f' | {len(fresh)} |')
+        out.append(f'| {"public " if k != "definitions" else ""}{k} | {len(rows)} | ' + ' | '.join(str(n[s]) for s in states) + f' | {len(fresh)} |')
+    for k in KINDS:
+        n = collections.Counter(r[2] for r in inside[k])
+        if inside[k]:
+            out.append(f'| other {k} | {len(inside[k])} | ' + ' | '.join(str(n[s]) for s in states) + ' | |')
     out.append('')
     for c in crates:
         out.append(f'## {c}\n')
         for k in KINDS:
             rows = [r for r in results[k][0] if r[0].place[0] == c]
+            hidden = [r for r in inside[k] if r[0].place[0] == c and (not r[1] or r[0].path != r[1].path)]
             fresh = [j for j in results[k][1] if j.place[0] == c]
             differ = [r for r in rows if r[2] != 'same']
             if k != 'theorems':
-                if differ or fresh:
+                if differ or fresh or hidden:
                     out.append(f'### {c}: {k}\n')
                 for r in differ:
                     beside(out, r, k)
                 if fresh:
                     out.append('New: ' + ', '.join(f'`{j.path}`' for j in fresh) + '.\n')
+                went(out, 'Inside the crate, gone or at another place', hidden)
                 continue
-            if not rows:
+            if not rows and not hidden:
                 continue  # only new ones
             out.append(f'### {c}: theorems\n')
             for r in differ:
-                if r[0].name in told:
+                if r[0].name in named:
                     beside(out, r, k)
-            if kept := [r[0].path.split('/', 1)[1] for r in rows if r[2] == 'same' and r[0].name in told]:
+            if kept := [r[0].path.split('/', 1)[1] for r in rows if r[2] == 'same' and r[0].name in named]:
                 out.append('Named in the pages of old, and kept: ' + ', '.join(f'`{p}`' for p in kept) + '.\n')
             by = collections.defaultdict(list)
             for r in rows:
-                by[{'same': 'Kept', 'moved': 'Kept', 'spelling': 'Kept', 'gone': 'Gone'}.get(r[2], 'Changed')].append(r[0].path.split('/', 1)[1])
-            for label in ('Kept', 'Changed', 'Gone'):
+                at = '' if not r[1] or r[1].path == r[0].path else f' → `{last(r[1].path, c)}`'
+                label = 'Gone' if r[2] == 'gone' or r[0].path in table else 'Changed' if 'changed' in r[2] else 'Kept'
+                by[label].append(r if label == 'Gone' else f'`{last(r[0].path, c)}`{at}')
+            for label in ('Kept', 'Changed'):
                 if by[label]:
-                    out.append(f'{label} ({len(by[label])}): ' + ', '.join(f'`{p}`' for p in by[label]) + '.\n')
+                    out.append(f'{label} ({len(by[label])}): ' + ', '.join(by[label]) + '.\n')
+            went(out, 'Gone or under another name', by['Gone'] + hidden)
     (TOP / 'docs/DESIGN-PASS-LISTS.md').write_text('\n'.join(out).rstrip() + '\n')
-    print('\n'.join(line for line in out if line.startswith('|')))
-    for k in KINDS[:3]:
-        for i, j, state, remark in results[k][0]:
-            if state == 'gone' and not remark:
-                print('not paired:', k, i.path)
+    print('\n'.join([line for line in out if line.startswith('|')] + unpaired))
 
 
 main()
