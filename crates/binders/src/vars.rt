@@ -14,11 +14,11 @@ use pieces::digits::put_number;
 
 // The variable i of a scope: the name at its place, else its index among the names in force, in digits.
 #[tactic(auto, using(crate::proofs::ScopeLaws::places))]
-pub fn pp_bvar(p: &Printer<'_>, sink: &mut Sink<'_>, k: &Stack, scope: usize, i: usize)
-    requires { (Held (pool_of p.now) k.now) × (scope ≤ k.now.count)
+pub fn pp_bvar(p: &Printer<'_>, sink: &mut Sink<'_>, k: Stack, scope: usize, i: usize)
+    requires { (Held (pool_of p.now) k) × (scope ≤ k.count)
         × (i ≤ 4095) }
-    ensures { Leaves sink.old sink.new (emit (var_doc (names_of (pool_of p.now) k.now) (place_in k.now scope i)
-        (place_in k.now scope i))) }
+    ensures { Leaves sink.old sink.new (emit (var_doc (names_of (pool_of p.now) k) (place_in k scope i)
+        (place_in k scope i))) }
 {
     let mut at = scope;
     let mut left = i;

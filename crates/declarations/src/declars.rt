@@ -130,7 +130,7 @@ fn pp_type(p: &Printer<'_>, sink: &mut Sink<'_>, k: Stack, m: usize, r: usize)
         (expr_at (pool_of p.now) r))) }
 {
     sink.put_break(1);
-    pp_tail(p, sink, &k, m, m, r, 0);
+    pp_tail(p, sink, k, m, m, r, 0);
     sink.put_group();
     sink.put_join();
     sink.put_nest(p.indent)
@@ -228,7 +228,7 @@ fn axiom_rest(p: &Printer<'_>, sink: &mut Sink<'_>, k: Stack, r: usize, row: usi
 {
     axiom_start(p, sink, k, r, count);
     join_line(sink);
-    pp_tail(p, sink, &k, count, count, row, 0);
+    pp_tail(p, sink, k, count, count, row, 0);
     sink.put_group();
     sink.put_join();
     sink.put_group();

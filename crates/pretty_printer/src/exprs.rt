@@ -43,10 +43,10 @@ pub fn pp_expr(p: &Printer<'_>, sink: &mut Sink<'_>, k: Stack, scope: usize, r: 
         return;
     }
     match p.pool.words.expr_kind(r) {
-        Some(ExprKind::Var) => pp_bvar(p, sink, &k, scope, p.pool.words.expr(r, VAR_INDEX)),
+        Some(ExprKind::Var) => pp_bvar(p, sink, k, scope, p.pool.words.expr(r, VAR_INDEX)),
         Some(ExprKind::App) => pp_app(p, sink, k, scope, r, outer),
         Some(ExprKind::Pi | ExprKind::Lambda) => pp_chain(p, sink, k, scope, r, outer),
-        Some(ExprKind::Let) => pp_let(p, sink, &k, scope, r, outer),
+        Some(ExprKind::Let) => pp_let(p, sink, k, scope, r, outer),
         Some(ExprKind::Proj) => {
             let structure = p.pool.words.expr(r, PROJ_STRUCTURE);
             pp_expr(p, sink, k, scope, structure, 1024);
@@ -78,15 +78,15 @@ fn pp_app(p: &Printer<'_>, sink: &mut Sink<'_>, k: Stack, scope: usize, r: usize
 
 // A let.
 #[cycle(exprs)]
-fn pp_let(p: &Printer<'_>, sink: &mut Sink<'_>, k: &Stack, scope: usize, r: usize, outer: usize)
-    requires { (Asked (pool_of p.now) k.now scope r) × (outer ≤ 1024)
+fn pp_let(p: &Printer<'_>, sink: &mut Sink<'_>, k: Stack, scope: usize, r: usize, outer: usize)
+    requires { (Asked (pool_of p.now) k scope r) × (outer ≤ 1024)
         × (expr_word (pool_of p.now).words r 0 ≡ 6) }
-    ensures { Leaves sink.old sink.new (emit (under outer (row_in (options_of p.now) (pool_of p.now) k.now scope r))) }
+    ensures { Leaves sink.old sink.new (emit (under outer (row_in (options_of p.now) (pool_of p.now) k scope r))) }
 {
     let wrapped = outer > 0;
     open_paren(sink, wrapped);
     pp_let_head(p, sink, k, scope, r);
-    pp_let_body(p, sink, *k, scope, r);
+    pp_let_body(p, sink, k, scope, r);
     sink.put_join();
     sink.put_group();
     close_paren(sink, wrapped)
@@ -94,9 +94,9 @@ fn pp_let(p: &Printer<'_>, sink: &mut Sink<'_>, k: &Stack, scope: usize, r: usiz
 
 // Its name, type and value, up to the break.
 #[cycle(exprs)]
-fn pp_let_head(p: &Printer<'_>, sink: &mut Sink<'_>, k: &Stack, scope: usize, r: usize)
-    requires { (Asked (pool_of p.now) k.now scope r) × (expr_word (pool_of p.now).words r 0 ≡ 6) }
-    ensures { Leaves sink.old sink.new (let_head (options_of p.now) (pool_of p.now) k.now scope
+fn pp_let_head(p: &Printer<'_>, sink: &mut Sink<'_>, k: Stack, scope: usize, r: usize)
+    requires { (Asked (pool_of p.now) k scope r) × (expr_word (pool_of p.now).words r 0 ≡ 6) }
+    ensures { Leaves sink.old sink.new (let_head (options_of p.now) (pool_of p.now) k scope
         (name_at (pool_of p.now) (expr_word (pool_of p.now).words r 1))
         (expr_at (pool_of p.now) (expr_word (pool_of p.now).words r 2))
         (expr_at (pool_of p.now) (expr_word (pool_of p.now).words r 3))) }
@@ -106,10 +106,10 @@ fn pp_let_head(p: &Printer<'_>, sink: &mut Sink<'_>, k: &Stack, scope: usize, r:
     pp_name_safe(&p.pool, sink, name);
     put_colon(sink);
     let type_row = p.pool.words.expr(r, LET_TYPE);
-    pp_expr(p, sink, *k, scope, type_row, 1);
+    pp_expr(p, sink, k, scope, type_row, 1);
     put_assign(sink);
     let value = p.pool.words.expr(r, LET_VALUE);
-    pp_expr(p, sink, *k, scope, value, 0);
+    pp_expr(p, sink, k, scope, value, 0);
     end_let(sink, p.indent)
 }
 
@@ -155,7 +155,7 @@ fn pp_chain(
         return;
     }
     push_chain(p, &mut k, scope, r);
-    pp_binders(p, sink, &k, scope, m, r, 0);
+    pp_binders(p, sink, k, scope, m, r, 0);
     close_paren(sink, wrapped)
 }
 
@@ -164,20 +164,20 @@ fn pp_chain(
 pub fn pp_tail(
     p: &Printer<'_>,
     sink: &mut Sink<'_>,
-    k: &Stack,
+    k: Stack,
     scope: usize,
     m: usize,
     r: usize,
     outer: usize,
 )
-    requires { (InChain (pool_of p.now) k.now scope m r) × (outer ≤ 1024) }
-    ensures { Leaves sink.old sink.new (emit (under outer (chain_part (options_of p.now) (pool_of p.now) k.now scope m
+    requires { (InChain (pool_of p.now) k scope m r) × (outer ≤ 1024) }
+    ensures { Leaves sink.old sink.new (emit (under outer (chain_part (options_of p.now) (pool_of p.now) k scope m
         (expr_at (pool_of p.now) r)))) }
 {
     if is_binder(p, r) {
         return pp_binders(p, sink, k, scope, m, r, outer);
     }
-    pp_expr(p, sink, *k, scope, r, outer)
+    pp_expr(p, sink, k, scope, r, outer)
 }
 
 // A part of a chain, an arrow binder or a run of others, and what follows it: its names are on the stack from entry m on, and its first
@@ -186,15 +186,15 @@ pub fn pp_tail(
 fn pp_binders(
     p: &Printer<'_>,
     sink: &mut Sink<'_>,
-    k: &Stack,
+    k: Stack,
     scope: usize,
     m: usize,
     r: usize,
     outer: usize,
 )
-    requires { (InChain (pool_of p.now) k.now scope m r) × (outer ≤ 1024)
+    requires { (InChain (pool_of p.now) k scope m r) × (outer ≤ 1024)
         × (binder_kind (expr_word (pool_of p.now).words r 0) ≡ true) }
-    ensures { Leaves sink.old sink.new (emit (under outer (chain_part (options_of p.now) (pool_of p.now) k.now scope m
+    ensures { Leaves sink.old sink.new (emit (under outer (chain_part (options_of p.now) (pool_of p.now) k scope m
         (expr_at (pool_of p.now) r)))) }
 {
     if sink.is_stopped() {
@@ -205,14 +205,15 @@ fn pp_binders(
     let wrapped = outer > inner;
     let end = part_end(p, r, arrow);
     open_paren(sink, wrapped);
-    pp_part(p, sink, k, scope, m, r, end.count, arrow);
+    pp_part(p, sink, &k, scope, m, r, end.count, arrow);
     let m = m + end.count;
     pp_tail(p, sink, k, m, m, end.row, inner);
     sink.put_join();
     close_paren(sink, wrapped)
 }
 
-// An arrow binder's type, or the n binders of a run.
+// An arrow binder's type, or the n binders of a run. It is a part of `pp_binders`, so the stack is lent to it.
+#[inline(always)]
 #[cycle(exprs)]
 fn pp_part(
     p: &Printer<'_>,
