@@ -1,6 +1,5 @@
--- Laws of the tests of an expression row: its unused words, its kind where it is none of the ten, and what is asked of it.
-use Prim.Native.Nat.{ℕ, zero, suc, ◌≤◌}
-use native.Mathlib.Omega.{arith}
+-- Laws of the tests of an expression row: its unused words, and what is asked of it.
+use Prim.Native.Nat.{ℕ}
 use mathlib.Core.Bool.{Bool, true, false, ◌&&◌}
 use mathlib.Core.List.{List, [], ◌∷◌}
 use mathlib.Core.Path.{◌≡◌, refl, sym}
@@ -9,7 +8,7 @@ use Rattle.std.specs.Prelude.{None, Some}
 use Rattle.std.specs.List.{fold}
 use Rattle.basics.proofs.Booleans.{and-true}
 use Rattle.pool.specs.Tables.{Pool, expr_word}
-use Rattle.pool.specs.Kinds.{ExprKind, expr_kind, noExprᵏ}
+use Rattle.pool.specs.Kinds.{ExprKind, expr_kind}
 use Rattle.pool.specs.Rules.{unused, expr_fields_ok, depth_by, loose_by, expr_ok}
 use Rattle.expr_check.specs.declared.kinds.Asked.{Asked}
 use Rattle.expr_check.specs.Fields.{asked_by}
@@ -19,21 +18,6 @@ unfolding unused
 unused_fold [] b = sym (and-true b)
 unused_fold (w ∷ ws) true = unused_fold ws (eqb w 0)
 unused_fold (w ∷ ws) false = unused_fold ws false
-
--- ten and above
-pub expr_none : (k : ℕ) → 10 ≤ k → expr_kind k ≡ noExprᵏ
-unfolding expr_kind
-expr_none zero h = absurd (omega arith)
-expr_none (suc zero) h = absurd (omega arith)
-expr_none (suc (suc zero)) h = absurd (omega arith)
-expr_none (suc (suc (suc zero))) h = absurd (omega arith)
-expr_none (suc (suc (suc (suc zero)))) h = absurd (omega arith)
-expr_none (suc (suc (suc (suc (suc zero))))) h = absurd (omega arith)
-expr_none (suc (suc (suc (suc (suc (suc zero)))))) h = absurd (omega arith)
-expr_none (suc (suc (suc (suc (suc (suc (suc zero))))))) h = absurd (omega arith)
-expr_none (suc (suc (suc (suc (suc (suc (suc (suc zero)))))))) h = absurd (omega arith)
-expr_none (suc (suc (suc (suc (suc (suc (suc (suc (suc zero))))))))) h = absurd (omega arith)
-expr_none (suc (suc (suc (suc (suc (suc (suc (suc (suc (suc k)))))))))) h = refl
 
 -- what is asked of a row decides on it
 module _ (p : Pool) (r : ℕ) where

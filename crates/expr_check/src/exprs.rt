@@ -10,8 +10,8 @@ ghost use Rattle.expr_check.specs.Marks.{MarkedFor, Right, Scanned};
 
 use crate::kinds::{Asked, ask};
 use byte_check::naturals::mark_naturals;
-use pool::fields::{EXPR_DEPTH, EXPR_KIND, EXPR_LOOSE};
-use pool::kinds::EXPR_NAT;
+use pool::fields::{EXPR_DEPTH, EXPR_LOOSE};
+use pool::kinds::ExprKind;
 use pool::pool::Pool;
 use pool::words::Words;
 
@@ -85,9 +85,9 @@ pub fn first_bad_expr(pool: &Pool<'_>) -> Option<usize>
     ensures { result ≡ found (expr_ok (read pool.now)) (E (read pool.now).words) }
 {
     let first = scan_exprs(pool, &[], 0)?;
-    if pool.words.expr(first, EXPR_KIND) != EXPR_NAT {
+    let Some(ExprKind::Nat) = pool.words.expr_kind(first) else {
         return Some(first);
-    }
+    };
     match pool.names.tables.strings {
         0..=64 => scan_marked::<64>(pool, first),
         65..=4096 => scan_marked::<4096>(pool, first),

@@ -13,13 +13,10 @@ ghost use Rattle.expr_check.specs.Marks.{MarkedFor};
 use byte_check::table::byte_at;
 use pool::fields::{
     APP_ARGUMENT, APP_FUNCTION, BINDER_BODY, BINDER_NAME, BINDER_STYLE, BINDER_TYPE, CONST_LIST,
-    CONST_NAME, EXPR_DEPTH, EXPR_KIND, EXPR_LOOSE, LET_BODY, LET_NAME, LET_NONDEP, LET_TYPE,
-    LET_VALUE, LITERAL_STRING, PROJ_INDEX, PROJ_NAME, PROJ_STRUCTURE, SORT_LEVEL, VAR_INDEX,
+    CONST_NAME, EXPR_DEPTH, EXPR_LOOSE, LET_BODY, LET_NAME, LET_NONDEP, LET_TYPE, LET_VALUE,
+    LITERAL_STRING, PROJ_INDEX, PROJ_NAME, PROJ_STRUCTURE, SORT_LEVEL, VAR_INDEX,
 };
-use pool::kinds::{
-    EXPR_APP, EXPR_CONST, EXPR_LAMBDA, EXPR_LET, EXPR_NAT, EXPR_PI, EXPR_PROJ, EXPR_SORT,
-    EXPR_STRING, EXPR_VAR,
-};
+use pool::kinds::ExprKind;
 use pool::pool::Pool;
 use pool::words::Words;
 
@@ -180,6 +177,7 @@ fn ask_string(pool: &Pool<'_>, r: usize, row: &[usize; 8]) -> Option<Asked>
 }
 
 // What each kind asks: one choice, since a choice that is not foreseen costs as much as all of a row's tests.
+#[tactic(auto, unfolding(pool::specs::Kinds::expr_kind, pool::specs::Rules::expr_fields_ok))]
 #[inline(always)]
 pub(crate) fn ask(pool: &Pool<'_>, marks: &[u8], r: usize, row: &[usize; 8]) -> Option<Asked>
     requires { row.now ≡ row_of (read pool.now).words r }
@@ -187,17 +185,17 @@ pub(crate) fn ask(pool: &Pool<'_>, marks: &[u8], r: usize, row: &[usize; 8]) -> 
         → result ≡ asked_by (read pool.now) r (expr_kind (expr_word (read pool.now).words r 0)) }
     ensures unmarked { marks.now ≡ [] → expr_word (read pool.now).words r 0 ≡ 8 → result ≡ None }
 {
-    match pool.words.expr(r, EXPR_KIND) {
-        EXPR_VAR => ask_var(pool, r, row),
-        EXPR_SORT => ask_sort(pool, r, row),
-        EXPR_CONST => ask_const(pool, r, row),
-        EXPR_APP => ask_app(pool, r, row),
-        EXPR_PI => ask_binder(pool, r, row),
-        EXPR_LAMBDA => ask_binder(pool, r, row),
-        EXPR_LET => ask_let(pool, r, row),
-        EXPR_PROJ => ask_proj(pool, r, row),
-        EXPR_NAT => ask_nat(pool, marks, r, row),
-        EXPR_STRING => ask_string(pool, r, row),
-        _ => None,
+    match pool.words.expr_kind(r) {
+        Some(ExprKind::Var) => ask_var(pool, r, row),
+        Some(ExprKind::Sort) => ask_sort(pool, r, row),
+        Some(ExprKind::Const) => ask_const(pool, r, row),
+        Some(ExprKind::App) => ask_app(pool, r, row),
+        Some(ExprKind::Pi) => ask_binder(pool, r, row),
+        Some(ExprKind::Lambda) => ask_binder(pool, r, row),
+        Some(ExprKind::Let) => ask_let(pool, r, row),
+        Some(ExprKind::Proj) => ask_proj(pool, r, row),
+        Some(ExprKind::Nat) => ask_nat(pool, marks, r, row),
+        Some(ExprKind::String) => ask_string(pool, r, row),
+        None => None,
     }
 }

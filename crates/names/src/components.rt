@@ -13,32 +13,33 @@ ghost use Rattle.names.specs.Components.{prefix_of, component, is_number, is_hyg
 use document::sink::Sink;
 use pieces::digits::put_digits;
 use pool::checked::CheckedPool;
-use pool::fields::{NAME_HIGH, NAME_KIND, NAME_LOW, NAME_PREFIX, STRING_LENGTH, STRING_OFFSET};
-use pool::kinds::{NAME_ANONYMOUS, NAME_NUMBER, NAME_STRING};
+use pool::fields::{NAME_HIGH, NAME_LOW, NAME_PREFIX, STRING_LENGTH, STRING_OFFSET};
+use pool::kinds::NameKind;
+use pool::names::Names;
 use utf8::letterlike::ok_str;
 
 // The bytes of string row r.
-pub fn read_string<'a>(pool: &CheckedPool<'a>, r: usize) -> &'a [u8]
-    requires { string_word (lent pool.now).names r 0 + string_word (lent pool.now).names r 1 ≤ length (lent pool.now).bytes }
-    ensures { result.now ≡ string_at (lent pool.now) r }
+pub fn read_string<'a>(bytes: &'a [u8], names: &Names<'_>, r: usize) -> &'a [u8]
+    requires { string_word names.now.words.now r 0 + string_word names.now.words.now r 1 ≤ length bytes.now }
+    ensures { result.now ≡ string_in bytes.now names.now.words.now r }
 {
-    let from = pool.names.string(r, STRING_OFFSET);
-    let to = from + pool.names.string(r, STRING_LENGTH);
-    &pool.bytes[from..to]
+    let from = names.string(r, STRING_OFFSET);
+    let to = from + names.string(r, STRING_LENGTH);
+    &bytes[from..to]
 }
 
 pub fn is_anonymous(pool: &CheckedPool<'_>, r: usize) -> bool
     requires { (r < N (lent pool.now).names) }
     ensures { result ≡ is_anonymous (name_at (lent pool.now) r) }
 {
-    pool.names.name(r, NAME_KIND) == NAME_ANONYMOUS
+    matches!(pool.names.kind(r), Some(NameKind::Anonymous))
 }
 
 pub fn is_number(pool: &CheckedPool<'_>, r: usize) -> bool
     requires { (r < N (lent pool.now).names) }
     ensures { result ≡ is_number (name_at (lent pool.now) r) }
 {
-    pool.names.name(r, NAME_KIND) == NAME_NUMBER
+    matches!(pool.names.kind(r), Some(NameKind::Number))
 }
 
 // The row of the name before the last component.
@@ -62,11 +63,11 @@ pub fn is_hyg(pool: &CheckedPool<'_>, r: usize) -> bool
     requires { (r < N (lent pool.now).names) }
     ensures { result ≡ is_hyg (name_at (lent pool.now) r) }
 {
-    if pool.names.name(r, NAME_KIND) != NAME_STRING {
+    let Some(NameKind::String) = pool.names.kind(r) else {
         return false;
-    }
+    };
     let string = pool.names.name(r, NAME_LOW);
-    is_hyg_text(read_string(pool, string))
+    is_hyg_text(read_string(pool.bytes, &pool.names, string))
 }
 
 // « or », which differ in their second byte.
@@ -96,8 +97,8 @@ pub fn put_component(pool: &CheckedPool<'_>, sink: &mut Sink<'_>, r: usize)
     ensures { Leaves sink.old sink.new (put_bytes (component (name_at (lent pool.now) r))) }
 {
     let low = pool.names.name(r, NAME_LOW);
-    if pool.names.name(r, NAME_KIND) == NAME_STRING {
-        return put_escaped(sink, read_string(pool, low));
+    if let Some(NameKind::String) = pool.names.kind(r) {
+        return put_escaped(sink, read_string(pool.bytes, &pool.names, low));
     }
     let high = pool.names.name(r, NAME_HIGH);
     put_digits(sink, (low + high * 4294967296) as u64)

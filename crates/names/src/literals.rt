@@ -30,7 +30,7 @@ pub fn pp_nat(pool: &CheckedPool<'_>, sink: &mut Sink<'_>, r: usize)
     requires { (r < S (lent pool.now).names) }
     ensures { Leaves sink.old sink.new (emit (textᵐ (string_at (lent pool.now) r))) }
 {
-    sink.put_text(read_string(pool, r))
+    sink.put_text(read_string(pool.bytes, &pool.names, r))
 }
 
 // The string literal of string row r: its raw bytes in quotes.

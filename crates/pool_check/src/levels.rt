@@ -8,8 +8,8 @@ ghost use Rattle.byte_check.specs.Scan.{found};
 ghost use Rattle.pool_check.specs.Asked.{asked_level_by};
 
 use byte_check::table::byte_at;
-use pool::fields::{LEVEL_FIRST, LEVEL_KIND, LEVEL_SECOND};
-use pool::kinds::{LEVEL_IMAX, LEVEL_MAX, LEVEL_PARAM, LEVEL_SUCC, LEVEL_ZERO};
+use pool::fields::{LEVEL_FIRST, LEVEL_SECOND};
+use pool::kinds::LevelKind;
 use pool::pool::Pool;
 
 // The depth of row r, from those of lower rows; nothing where its fields are not right.
@@ -22,13 +22,11 @@ fn ask_level(pool: &Pool<'_>, r: usize, depths: &[u8]) -> Option<usize>
     let second = pool.words.level(r, LEVEL_SECOND);
     let under = byte_at(depths, first);
     let deeper = under.max(byte_at(depths, second));
-    match pool.words.level(r, LEVEL_KIND) {
-        LEVEL_ZERO => (first == 0 && second == 0).then_some(1),
-        LEVEL_SUCC => (first < r && second == 0).then_some(1 + under),
-        LEVEL_MAX => (first < r && second < r).then_some(1 + deeper),
-        LEVEL_IMAX => (first < r && second < r).then_some(1 + deeper),
-        LEVEL_PARAM => (first < pool.names.tables.names && second == 0).then_some(1),
-        _ => None,
+    match pool.words.level_kind(r)? {
+        LevelKind::Zero => (first == 0 && second == 0).then_some(1),
+        LevelKind::Succ => (first < r && second == 0).then_some(1 + under),
+        LevelKind::Max | LevelKind::IMax => (first < r && second < r).then_some(1 + deeper),
+        LevelKind::Param => (first < pool.names.tables.names && second == 0).then_some(1),
     }
 }
 

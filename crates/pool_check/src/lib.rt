@@ -16,6 +16,8 @@ use byte_check::strings::first_bad_string;
 use expr_check::exprs::first_bad_expr;
 use pool::checked::CheckedPool;
 use pool::pool::Pool;
+use std::error::Error;
+use std::fmt;
 
 // Why a pool is refused: 01's numbers 1 to 4.
 #[derive(Clone, Copy, Debug, PartialEq, Eq)]
@@ -29,6 +31,19 @@ pub enum PoolError {
     // 4: any other row rule.
     Rows { row: usize },
 }
+
+impl fmt::Display for PoolError {
+    fn fmt<W: fmt::Write>(&self, f: &mut fmt::Formatter<W>) -> fmt::Result {
+        match self {
+            PoolError::Words => f.write_str("the words are not those of a pool"),
+            PoolError::Limit => f.write_str("a count or the byte area is over its limit"),
+            PoolError::Strings { row } => write!(f, "string {row} breaks a rule of strings"),
+            PoolError::Rows { row } => write!(f, "row {row} of a table breaks a rule of its rows"),
+        }
+    }
+}
+
+impl Error for PoolError {}
 
 // "words short of the head, or total wrong"
 fn words_ok(pool: &Pool<'_>) -> bool

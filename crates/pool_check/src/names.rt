@@ -8,8 +8,8 @@ ghost use Rattle.byte_check.specs.Scan.{found};
 ghost use Rattle.pool_check.specs.Asked.{asked_name_by};
 
 use byte_check::table::byte_at;
-use pool::fields::{NAME_HIGH, NAME_KIND, NAME_LOW, NAME_PREFIX};
-use pool::kinds::{NAME_ANONYMOUS, NAME_NUMBER, NAME_STRING};
+use pool::fields::{NAME_HIGH, NAME_LOW, NAME_PREFIX};
+use pool::kinds::NameKind;
 use pool::names::Names;
 use pool::pool::Pool;
 
@@ -23,11 +23,10 @@ fn ask_name(names: &Names<'_>, r: usize, depths: &[u8]) -> Option<usize>
     let low = names.name(r, NAME_LOW);
     let high = names.name(r, NAME_HIGH);
     let depth = 1 + byte_at(depths, prefix);
-    match names.name(r, NAME_KIND) {
-        NAME_ANONYMOUS => (prefix == 0 && (low == 0 && high == 0)).then_some(1),
-        NAME_STRING => (prefix < r && (low < names.tables.strings && high == 0)).then_some(depth),
-        NAME_NUMBER => (prefix < r).then_some(depth),
-        _ => None,
+    match names.kind(r)? {
+        NameKind::Anonymous => (prefix == 0 && (low == 0 && high == 0)).then_some(1),
+        NameKind::String => (prefix < r && (low < names.tables.strings && high == 0)).then_some(depth),
+        NameKind::Number => (prefix < r).then_some(depth),
     }
 }
 

@@ -10,8 +10,17 @@ returns-in_err-first c =
     let all = c.in_err-first.ensures in
     c.from_residual.ensures ∙ found_none (expr_ok (read c.args.pool.now)) _ (λ k h. all k (omega arith) h)
 
-pub returns-then-expr-ne-EXPR_NAT : goal.returns-then-expr-ne-EXPR_NAT
-returns-then-expr-ne-EXPR_NAT c =
+-- another kind
+pub returns-in_default : goal.returns-in_default
+returns-in_default c =
     let here = c.in_ok-first.ensures in
-    let bad = here.2 (λ e. absurd (c.if-expr-ne-EXPR_NAT.true (c.expr.ensures.0 ∙ e))) in
+    let bad = here.2 (λ e. absurd (grind arith)) in
+    found_at (expr_ok (read c.args.pool.now)) _ _ here.1 (λ k h. here.3 k (omega arith) h) bad
+
+-- no kind
+pub returns-in_default-2 : goal.returns-in_default-2
+returns-in_default-2 c =
+    let here = c.in_ok-first.ensures in
+    let past = rw c.in_default.is at c.expr_kind.ensures in
+    let bad = here.2 (λ e. absurd (omega arith)) in
     found_at (expr_ok (read c.args.pool.now)) _ _ here.1 (λ k h. here.3 k (omega arith) h) bad
