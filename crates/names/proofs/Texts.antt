@@ -1,14 +1,14 @@
 -- Laws of names' texts: a name's text from that of the name before its last component.
 use Prim.Native.Nat.{ℕ, ◌+◌, ◌≤◌}
 use native.Mathlib.Omega.{arith}
-use mathlib.Core.Bool.{Bool, true, false, ◌&&◌, cond}
+use mathlib.Core.Bool.{Bool, true, false, cond}
 use mathlib.Core.List.{List, [], ◌∷◌, ◌++◌}
 use mathlib.Core.Path.{◌≡◌, refl, sym, ap, ◌∙◌}
-use lib.ListN.{length, get_or, set}
+use lib.ListN.{length, set}
 use lib.Dec.{ltb, eqb}
 use borrow.Author.Tests.{eq-eqb, eqb-true}
 use Rattle.utf8.specs.Quoted.{bytes, encode}
-use Rattle.utf8.specs.Letterlike.{plain, same_bytes}
+use Rattle.utf8.specs.Letterlike.{plain}
 use Rattle.std.specs.Prelude.{is_none}
 use Rattle.document.specs.declared.written.Written.{Written}
 use Rattle.document.specs.declared.written.Stop.TheVariants.{Document, TextArea}

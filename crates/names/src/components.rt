@@ -1,10 +1,10 @@
 // The rows of names: what the last component is, and the row of the name before it.
-ghost use Rattle.std.specs.Prelude.{◌≡◌, false, [], ◌∷◌, ◌+◌, ◌<◌, ◌≤◌, length};
+ghost use Rattle.std.specs.Prelude.{◌≡◌, false, [], ◌∷◌, ◌+◌, ◌<◌, ◌≤◌, length, take, drop};
 ghost use Rattle.utf8.specs.Quoted.{bytes as quotedBytes};
 ghost use Rattle.utf8.specs.Letterlike.{same_bytes};
 ghost use Rattle.document.specs.Leaves.{Leaves};
 ghost use Rattle.document.specs.Sink.{put_bytes};
-ghost use Rattle.pool.specs.Tables.{N, string_word, string_at};
+ghost use Rattle.pool.specs.Tables.{N, string_word};
 ghost use Rattle.pool.specs.Unfold.{name_at};
 ghost use Rattle.pool.specs.Views.{lent};
 ghost use Rattle.names.specs.Names.{is_anonymous, escaped};
@@ -21,7 +21,7 @@ use utf8::letterlike::ok_str;
 // The bytes of string row r.
 pub fn read_string<'a>(bytes: &'a [u8], names: &Names<'_>, r: usize) -> &'a [u8]
     requires { string_word names.now.words.now r 0 + string_word names.now.words.now r 1 ≤ length bytes.now }
-    ensures { result.now ≡ string_in bytes.now names.now.words.now r }
+    ensures { result.now ≡ take (string_word names.now.words.now r 1) (drop (string_word names.now.words.now r 0) bytes.now) }
 {
     let from = names.string(r, STRING_OFFSET);
     let to = from + names.string(r, STRING_LENGTH);
@@ -32,14 +32,14 @@ pub fn is_anonymous(pool: &CheckedPool<'_>, r: usize) -> bool
     requires { (r < N (lent pool.now).names) }
     ensures { result ≡ is_anonymous (name_at (lent pool.now) r) }
 {
-    matches!(pool.names.kind(r), Some(NameKind::Anonymous))
+    pool.names.kind(r) == Some(NameKind::Anonymous)
 }
 
 pub fn is_number(pool: &CheckedPool<'_>, r: usize) -> bool
     requires { (r < N (lent pool.now).names) }
     ensures { result ≡ is_number (name_at (lent pool.now) r) }
 {
-    matches!(pool.names.kind(r), Some(NameKind::Number))
+    pool.names.kind(r) == Some(NameKind::Number)
 }
 
 // The row of the name before the last component.
@@ -63,11 +63,11 @@ pub fn is_hyg(pool: &CheckedPool<'_>, r: usize) -> bool
     requires { (r < N (lent pool.now).names) }
     ensures { result ≡ is_hyg (name_at (lent pool.now) r) }
 {
-    let Some(NameKind::String) = pool.names.kind(r) else {
-        return false;
-    };
-    let string = pool.names.name(r, NAME_LOW);
-    is_hyg_text(read_string(pool.bytes, &pool.names, string))
+    if pool.names.kind(r) == Some(NameKind::String) {
+        let string = pool.names.name(r, NAME_LOW);
+        return is_hyg_text(read_string(pool.bytes, &pool.names, string));
+    }
+    false
 }
 
 // « or », which differ in their second byte.
@@ -97,7 +97,7 @@ pub fn put_component(pool: &CheckedPool<'_>, sink: &mut Sink<'_>, r: usize)
     ensures { Leaves sink.old sink.new (put_bytes (component (name_at (lent pool.now) r))) }
 {
     let low = pool.names.name(r, NAME_LOW);
-    if let Some(NameKind::String) = pool.names.kind(r) {
+    if pool.names.kind(r) == Some(NameKind::String) {
         return put_escaped(sink, read_string(pool.bytes, &pool.names, low));
     }
     let high = pool.names.name(r, NAME_HIGH);

@@ -1,7 +1,12 @@
 use Rattle.pool.specs.Views.{lent}
+use Rattle.pool.specs.declared.kinds.NameKind.TheVariants.{Number}
 use Rattle.pool.proofs.RowUnfolds.{name_row}
+use Rattle.names.proofs.NameKinds.{name_test}
 use Rattle.names.proofs.Rows.{number_by}
+use mathlib.Core.Path.{◌∙◌}
 use Rattle.names.proofs.components.is_number.Goals as goal
 
 pub returns : goal.returns
-returns c = rw c.name.ensures.0 (number_by (lent c.args.pool.now) c.args.r (name_row _ c.args.pool.now.sound _ c.requires))
+returns c =
+    name_test _ _ c.kind.ensures Number _ c.eq.ensures
+    ∙ number_by (lent c.args.pool.now) c.args.r (name_row _ c.args.pool.now.sound _ c.requires)

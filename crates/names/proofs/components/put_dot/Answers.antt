@@ -1,5 +1,4 @@
 use Rattle.document.proofs.Leaving.{leaves_same, leaves_as}
-use mathlib.Core.Path.{sym, refl}
 use borrow.Author.Tests.{eq-eqb, ne_eqb}
 use Rattle.names.specs.Components.{put_dot}
 use Rattle.names.proofs.components.put_dot.Goals as goal
