@@ -1,1 +1,2 @@
+pub mod LevelKinds
 pub mod Universes

@@ -78,15 +78,6 @@ module _ (p : Pool) (r : ℕ) where
   param_emits (is_imax k l m e) q outer st h = absurd (omega arith)
   param_emits (is_param k l e) q outer st h = rw e (under_most outer (name_doc (name_at p (level_word p.words r 1))) st h)
 
-  -- what is left of the kinds
-  pub max_kind : LevelRow p r → (level_word p.words r 0 ≡ 0 → ⊥) → (level_word p.words r 0 ≡ 1 → ⊥) → (level_word p.words r 0 ≡ 4 → ⊥)
-      → (2 ≤ level_word p.words r 0) × (level_word p.words r 0 < 4)
-  max_kind (is_zero k e) x y z = absurd (x k)
-  max_kind (is_succ k l e) x y z = absurd (y k)
-  max_kind (is_max k l m e) x y z = omega arith
-  max_kind (is_imax k l m e) x y z = omega arith
-  max_kind (is_param k l e) x y z = absurd (z k)
-
   pub max_below : LevelRow p r → 2 ≤ level_word p.words r 0 → level_word p.words r 0 < 4 → (level_word p.words r 1 < r) × (level_word p.words r 2 < r)
   max_below (is_zero k e) x y = absurd (omega arith)
   max_below (is_succ k l e) x y = absurd (omega arith)

@@ -17,8 +17,8 @@ use pieces::digits::put_number;
 use pieces::parens::{close_paren, open_paren};
 use pieces::words::{end_tile, join_line, join_word, put_word};
 use pool::checked::CheckedPool;
-use pool::fields::{LEVEL_FIRST, LEVEL_KIND, LEVEL_SECOND, LIST_LENGTH, LIST_OFFSET};
-use pool::kinds::{LEVEL_MAX, LEVEL_PARAM, LEVEL_SUCC, LEVEL_ZERO};
+use pool::fields::{LEVEL_FIRST, LEVEL_SECOND, LIST_LENGTH, LIST_OFFSET};
+use pool::kinds::LevelKind;
 
 // A level that is no successor, and how many successors of it are meant.
 #[derive(Clone, Copy)]
@@ -34,7 +34,7 @@ fn level_succs(pool: &CheckedPool<'_>, r: usize) -> Succs
 {
     let mut at = r;
     let mut n: u64 = 0;
-    while pool.words.level(at, LEVEL_KIND) == LEVEL_SUCC {
+    while pool.words.level_kind(at) == Some(LevelKind::Succ) {
         at = pool.words.level(at, LEVEL_FIRST);
         n += 1;
     }
@@ -55,7 +55,7 @@ pub fn pp_level(pool: &CheckedPool<'_>, sink: &mut Sink<'_>, r: usize, outer: us
     if l.count == 0 {
         return pp_base(pool, sink, base, outer);
     }
-    if pool.words.level(base, LEVEL_KIND) == LEVEL_ZERO {
+    if pool.words.level_kind(base) == Some(LevelKind::Zero) {
         return put_number(sink, l.count);
     }
     put_plus(pool, sink, base, l.count, outer)
@@ -68,40 +68,28 @@ fn pp_base(pool: &CheckedPool<'_>, sink: &mut Sink<'_>, r: usize, outer: usize)
         × (level_word (lent pool.now).words r 0 ≡ 1 → ⊥) }
     ensures { Leaves sink.old sink.new (emit (under outer (level_par (level_at (lent pool.now) r)))) }
 {
-    let kind = pool.words.level(r, LEVEL_KIND);
-    if kind == LEVEL_ZERO {
-        return put_number(sink, 0);
+    match pool.words.level_kind(r) {
+        Some(LevelKind::Zero) => put_number(sink, 0),
+        Some(LevelKind::Max) => pp_max(pool, sink, b"max", r, outer),
+        Some(LevelKind::IMax) => pp_max(pool, sink, b"imax", r, outer),
+        Some(LevelKind::Param) => pp_name_safe(pool, sink, pool.words.level(r, LEVEL_FIRST)),
+        // Never, since a checked row has a kind, and the caller took the successors off.
+        Some(LevelKind::Succ) | None => {}
     }
-    if kind == LEVEL_PARAM {
-        let name = pool.words.level(r, LEVEL_FIRST);
-        return pp_name_safe(pool, sink, name);
-    }
-    pp_max(pool, sink, r, outer)
 }
 
-// The word of a max or an imax.
-fn max_word(kind: usize) -> &'static [u8]
-    ensures { result.now ≡ max_text kind }
-{
-    if kind == LEVEL_MAX {
-        return b"max";
-    }
-    b"imax"
-}
-
-// A max or an imax.
+// A max or an imax, and its word.
 #[cycle(levels)]
-fn pp_max(pool: &CheckedPool<'_>, sink: &mut Sink<'_>, r: usize, outer: usize)
+fn pp_max(pool: &CheckedPool<'_>, sink: &mut Sink<'_>, word: &[u8], r: usize, outer: usize)
     requires { (r < L (lent pool.now).words) × (2 ≤ level_word (lent pool.now).words r 0)
-        × (level_word (lent pool.now).words r 0 < 4) }
+        × (level_word (lent pool.now).words r 0 < 4) × (word.now ≡ max_text (level_word (lent pool.now).words r 0)) }
     ensures { Leaves sink.old sink.new (emit (under outer (level_par (level_at (lent pool.now) r)))) }
 {
-    let kind = pool.words.level(r, LEVEL_KIND);
     let left = pool.words.level(r, LEVEL_FIRST);
     let right = pool.words.level(r, LEVEL_SECOND);
     let open = 0 < outer;
     open_paren(sink, open);
-    put_word(sink, max_word(kind));
+    put_word(sink, word);
     join_word(sink, b" ");
     pp_level(pool, sink, left, 1);
     sink.put_join();
@@ -143,7 +131,7 @@ pub fn pp_sort(pool: &CheckedPool<'_>, sink: &mut Sink<'_>, r: usize)
     requires { r < L (lent pool.now).words }
     ensures { Leaves sink.old sink.new (emit (sort_doc (level_at (lent pool.now) r))) }
 {
-    if pool.words.level(r, LEVEL_KIND) == LEVEL_SUCC {
+    if pool.words.level_kind(r) == Some(LevelKind::Succ) {
         let below = pool.words.level(r, LEVEL_FIRST);
         return put_sort(pool, sink, b"Type", below);
     }

@@ -1,3 +1,4 @@
 pub mod NameKinds
 pub mod Rows
+pub mod Standing
 pub mod Texts

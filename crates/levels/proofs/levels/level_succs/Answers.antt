@@ -1,17 +1,18 @@
 use Rattle.pool.specs.Views.{lent}
+use Rattle.pool.specs.declared.kinds.LevelKind.TheVariants.{Succ}
+use Rattle.levels.proofs.LevelKinds.{level_is}
 use Rattle.pool.proofs.RowUnfolds.{level_row}
 use Rattle.levels.proofs.Universes.{succ_below, succ_on}
 use native.Mathlib.Omega.{arith}
 use Prim.Native.Nat.{◌<◌}
-use mathlib.Core.Path.{sym, ◌∙◌}
 use Rattle.levels.proofs.levels.level_succs.Goals as goal
 
 pub loop-at-smaller : goal.loop-at-smaller
-loop-at-smaller c = rw c.level-at.ensures.0 (succ_below (lent c.args.pool.now) c.loop-at.at (level_row _ c.args.pool.now.sound _ c.loop-at.invariant.0) (sym c.level.ensures.0 ∙ c.loop-at-test.true))
+loop-at-smaller c = rw c.level-at.ensures.0 (succ_below (lent c.args.pool.now) c.loop-at.at (level_row _ c.args.pool.now.sound _ c.loop-at.invariant.0) (level_is _ _ c.level_kind.ensures Succ _ c.eq.ensures c.loop-at-test.true))
 
 pub loop-at-preserved : goal.loop-at-preserved
 loop-at-preserved c =
-    let kind = sym c.level.ensures.0 ∙ c.loop-at-test.true in
+    let kind = level_is _ _ c.level_kind.ensures Succ _ c.eq.ensures c.loop-at-test.true in
     let next : c.level-at.result < c.loop-at.at = rw c.level-at.ensures.0 (succ_below (lent c.args.pool.now) c.loop-at.at (level_row _ c.args.pool.now.sound _ c.loop-at.invariant.0) kind) in (
       omega (arith, c.loop-at.invariant.0),
       omega (arith, c.loop-at.invariant.1),
