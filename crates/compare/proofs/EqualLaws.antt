@@ -217,8 +217,8 @@ module _ (p : Pool) (sound : Sound p) (a b kind : ℕ) (s : OneKind p a b kind) 
   at_b : (k : ℕ) → kind ≡ k → expr_word p.words b 0 ≡ k
   at_b k e = sym s.b_kind ∙ e
 
-  pub same_kind : kind ≡ 2 → OneKind p a b 2
-  same_kind e = record { a_row = s.a_row; b_row = s.b_row; a_kind = sym e ∙ s.a_kind; b_kind = sym e ∙ s.b_kind }
+  pub same_kind : (k : ℕ) → kind ≡ k → OneKind p a b k
+  same_kind k e = record { a_row = s.a_row; b_row = s.b_row; a_kind = sym e ∙ s.a_kind; b_kind = sym e ∙ s.b_kind }
 
   module _ (m n : ℕ) (em : m ≡ expr_word p.words a 1) (en : n ≡ expr_word p.words b 1) where
     pub const_names : kind ≡ 2 → (m < N p.names) × (n < N p.names)

@@ -1,5 +1,6 @@
-pub mod SeenLaws
-pub mod NameLaws
+pub mod EqualLaws
 pub mod LevelLaws
 pub mod ListLaws
-pub mod EqualLaws
+pub mod NameLaws
+pub mod SeenLaws
+pub mod Standing

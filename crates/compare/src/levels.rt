@@ -9,8 +9,8 @@ ghost use Rattle.compare.specs.Equal.{Quick, Compared, levels_same, level_shape_
 use super::{names, seen};
 use links::{highest, is_clear, link, take};
 use pool::checked::CheckedPool;
-use pool::fields::{LEVEL_FIRST, LEVEL_KIND, LEVEL_SECOND};
-use pool::kinds::{LEVEL_PARAM, LEVEL_ZERO};
+use pool::fields::{LEVEL_FIRST, LEVEL_SECOND};
+use pool::kinds::LevelKind;
 
 // A first look: whether they are equal; nothing where their parts say.
 fn glance(pool: &CheckedPool<'_>, a: usize, b: usize) -> Option<bool>
@@ -20,19 +20,19 @@ fn glance(pool: &CheckedPool<'_>, a: usize, b: usize) -> Option<bool>
     if a == b {
         return Some(true);
     }
-    let kind = pool.words.level(a, LEVEL_KIND);
-    if kind != pool.words.level(b, LEVEL_KIND) {
+    let kind = pool.words.level_kind(a);
+    if kind != pool.words.level_kind(b) {
         return Some(false);
     }
-    if kind == LEVEL_ZERO {
-        return Some(true);
+    match kind {
+        Some(LevelKind::Zero) => Some(true),
+        Some(LevelKind::Param) => {
+            let name_a = pool.words.level(a, LEVEL_FIRST);
+            let name_b = pool.words.level(b, LEVEL_FIRST);
+            Some(names::same_name(pool, name_a, name_b))
+        }
+        _ => None,
     }
-    if kind < LEVEL_PARAM {
-        return None;
-    }
-    let name_a = pool.words.level(a, LEVEL_FIRST);
-    let name_b = pool.words.level(b, LEVEL_FIRST);
-    Some(names::same_name(pool, name_a, name_b))
 }
 
 // Two rows are compared once, unless what was answered of them was overwritten.

@@ -2,30 +2,31 @@
 ghost use Rattle.std.specs.Prelude.{◌≡◌, ◌+◌, ◌<◌, ◌≤◌, length};
 ghost use Rattle.utf8.specs.Letterlike.{same_bytes};
 ghost use Rattle.pool.specs.Views.{lent};
-ghost use Rattle.pool.specs.Tables.{N, string_word};
+ghost use Rattle.pool.specs.Codes.{Stands, name_code};
+ghost use Rattle.pool.specs.Tables.{N, string_word, name_word};
 ghost use Rattle.pool.specs.Tree.{name_shape, same_shape};
 ghost use Rattle.pool.specs.Unfold.{name_at};
 ghost use Rattle.compare.specs.Equal.{string_of, number_of, TwoNames, ends_same};
 
 use pool::checked::CheckedPool;
-use pool::fields::{NAME_HIGH, NAME_KIND, NAME_LOW, NAME_PREFIX, STRING_LENGTH, STRING_OFFSET};
-use pool::kinds::{NAME_ANONYMOUS, NAME_STRING};
+use pool::fields::{NAME_HIGH, NAME_LOW, NAME_PREFIX, STRING_LENGTH, STRING_OFFSET};
+use pool::kinds::NameKind;
 use pool::names::Names;
 
 // The strings of two rows.
-pub fn same_string(pool: &CheckedPool<'_>, a: usize, b: usize) -> bool
-    requires { let p = lent pool.now in (string_word p.names a 0 + string_word p.names a 1 ≤ length p.bytes)
-        × (string_word p.names b 0 + string_word p.names b 1 ≤ length p.bytes) }
-    ensures { let p = lent pool.now in result ≡ same_bytes (string_of p.bytes p.names a) (string_of p.bytes p.names b) }
+pub fn same_string(bytes: &[u8], names: &Names<'_>, a: usize, b: usize) -> bool
+    requires { let ns = names.now.words.now in (string_word ns a 0 + string_word ns a 1 ≤ length bytes.now)
+        × (string_word ns b 0 + string_word ns b 1 ≤ length bytes.now) }
+    ensures { let ns = names.now.words.now in result ≡ same_bytes (string_of bytes.now ns a) (string_of bytes.now ns b) }
 {
     if a == b {
         return true;
     }
-    let x = pool.names.string(a, STRING_OFFSET);
-    let y = pool.names.string(b, STRING_OFFSET);
-    let x_end = x + pool.names.string(a, STRING_LENGTH);
-    let y_end = y + pool.names.string(b, STRING_LENGTH);
-    pool.bytes[x..x_end] == pool.bytes[y..y_end]
+    let x = names.string(a, STRING_OFFSET);
+    let y = names.string(b, STRING_OFFSET);
+    let x_end = x + names.string(a, STRING_LENGTH);
+    let y_end = y + names.string(b, STRING_LENGTH);
+    bytes[x..x_end] == bytes[y..y_end]
 }
 
 fn number_of(names: &Names<'_>, r: usize) -> usize
@@ -35,14 +36,15 @@ fn number_of(names: &Names<'_>, r: usize) -> usize
 }
 
 // The last parts of two names of one kind, which is not the anonymous one.
-fn same_end(pool: &CheckedPool<'_>, kind: usize, a: usize, b: usize) -> bool
-    requires { TwoNames (lent pool.now) kind a b }
-    ensures { result ≡ ends_same (lent pool.now).bytes (lent pool.now).names kind a b }
+fn same_end(pool: &CheckedPool<'_>, kind: Option<NameKind>, a: usize, b: usize) -> bool
+    requires two { let p = lent pool.now in TwoNames p (name_word p.names a 0) a b }
+    requires kind_is { Stands name_code 2 (name_word (lent pool.now).names a 0) kind }
+    ensures { let p = lent pool.now in result ≡ ends_same p.bytes p.names (name_word p.names a 0) a b }
 {
-    if kind == NAME_STRING {
+    if kind == Some(NameKind::String) {
         let string_a = pool.names.name(a, NAME_LOW);
         let string_b = pool.names.name(b, NAME_LOW);
-        return same_string(pool, string_a, string_b);
+        return same_string(pool.bytes, &pool.names, string_a, string_b);
     }
     number_of(&pool.names, a) == number_of(&pool.names, b)
 }
@@ -56,11 +58,11 @@ pub fn same_name(pool: &CheckedPool<'_>, a: usize, b: usize) -> bool
     let mut x = a;
     let mut y = b;
     while x != y {
-        let kind = pool.names.name(x, NAME_KIND);
-        if kind != pool.names.name(y, NAME_KIND) {
+        let kind = pool.names.kind(x);
+        if kind != pool.names.kind(y) {
             return false;
         }
-        if kind == NAME_ANONYMOUS {
+        if kind == Some(NameKind::Anonymous) {
             return true;
         }
         if !same_end(pool, kind, x, y) {

@@ -1,18 +1,20 @@
 // All fields of two rows but their parts, the first row lifted.
-ghost use Rattle.std.specs.Prelude.{◌≡◌, ◌&&◌, cond, ◌+◌, ◌<◌, ltb, eqb};
+ghost use Rattle.std.specs.Prelude.{◌≡◌, ◌&&◌, cond, ◌+◌, ◌<◌, ◌≤◌, ltb, eqb};
+ghost use Rattle.utf8.specs.Letterlike.{same_bytes};
 ghost use Rattle.pool.specs.Views.{lent};
+ghost use Rattle.pool.specs.Codes.{Stands, expr_code};
 ghost use Rattle.pool.specs.Tables.{E, expr_word};
 ghost use Rattle.pool.specs.Tree.{level_shapes, same_shapes};
 ghost use Rattle.pool.specs.Unfold.{list_at};
-ghost use Rattle.compare.specs.Equal.{Quick, trees_same, names_same, besides, fields_same, ByParts, OneKind};
+ghost use Rattle.compare.specs.Equal.{Quick, trees_same, names_same, levels_same, string_of, fields_same, ByParts, OneKind};
 
 use super::{levels, lists, names};
 use pool::checked::CheckedPool;
 use pool::fields::{
-    CONST_LIST, CONST_NAME, EXPR_DEPTH, EXPR_KIND, EXPR_LOOSE, LITERAL_STRING, SORT_LEVEL,
-    VAR_INDEX,
+    BINDER_STYLE, CONST_LIST, CONST_NAME, EXPR_DEPTH, EXPR_LOOSE, LET_NONDEP, LITERAL_STRING,
+    PROJ_INDEX, SORT_LEVEL, VAR_INDEX,
 };
-use pool::kinds::{EXPR_APP, EXPR_CONST, EXPR_LET, EXPR_NAT, EXPR_SORT, EXPR_VAR};
+use pool::kinds::ExprKind;
 use pool::words::Words;
 
 // A first look: whether they are equal; nothing where they are of one kind and may be either.
@@ -24,9 +26,7 @@ pub fn glance(pool: &CheckedPool<'_>, d: usize, a: usize, b: usize, c: usize) ->
     if pool.words.expr(a, EXPR_DEPTH) != pool.words.expr(b, EXPR_DEPTH) {
         return Some(false);
     }
-    let kind_a = pool.words.expr(a, EXPR_KIND);
-    let kind_b = pool.words.expr(b, EXPR_KIND);
-    if kind_a != kind_b {
+    if pool.words.expr_kind(a) != pool.words.expr_kind(b) {
         return Some(false);
     }
     let loose_a = pool.words.expr(a, EXPR_LOOSE);
@@ -58,6 +58,15 @@ fn same_var(words: &Words<'_>, d: usize, a: usize, b: usize, c: usize) -> bool
     index_a <= index_b && index_b - index_a == d
 }
 
+fn same_sort(pool: &CheckedPool<'_>, a: usize, b: usize) -> bool
+    requires { OneKind (lent pool.now) a b 1 }
+    ensures { let p = lent pool.now in result ≡ levels_same p (expr_word p.words a 1) (expr_word p.words b 1) }
+{
+    let level_a = pool.words.expr(a, SORT_LEVEL);
+    let level_b = pool.words.expr(b, SORT_LEVEL);
+    levels::same_level(pool, level_a, level_b)
+}
+
 fn same_const(pool: &CheckedPool<'_>, a: usize, b: usize) -> bool
     requires { OneKind (lent pool.now) a b 2 }
     ensures { result ≡ names_same (lent pool.now) (expr_word (lent pool.now).words a 1) (expr_word (lent pool.now).words b 1)
@@ -71,30 +80,28 @@ fn same_const(pool: &CheckedPool<'_>, a: usize, b: usize) -> bool
     names::same_name(pool, name_a, name_b) && lists::same_list(pool, list_a, list_b)
 }
 
-// Where a row of these kinds has the number beside its name: a let's nondep, a style or an index.
-fn beside(kind: usize) -> usize
-    ensures { (result ≡ besides kind) × (result < 8) }
-{
-    if kind == EXPR_LET {
-        return 5;
-    }
-    2
-}
-
 // The field of a name in a pi, a lambda, a let and a projection.
 const NAME: usize = 1;
 
-// Two rows of these kinds: the name, and the word beside it.
-fn same_named(pool: &CheckedPool<'_>, a: usize, b: usize, kind: usize) -> bool
-    requires { (OneKind (lent pool.now) a b kind) × (3 < kind) × (kind < 8) }
-    ensures { result ≡ names_same (lent pool.now) (expr_word (lent pool.now).words a 1) (expr_word (lent pool.now).words b 1)
-        && eqb (expr_word (lent pool.now).words a (besides kind)) (expr_word (lent pool.now).words b (besides kind)) }
+// Two rows of these kinds: the name, and the word beside it: a style, a let's nondep or an index.
+fn same_named(pool: &CheckedPool<'_>, a: usize, b: usize, beside: usize) -> bool
+    requires { let kind = expr_word (lent pool.now).words a 0 in (OneKind (lent pool.now) a b kind) × (3 < kind) × (kind < 8) × (beside < 8) }
+    ensures { let p = lent pool.now in result ≡ names_same p (expr_word p.words a 1) (expr_word p.words b 1)
+        && eqb (expr_word p.words a beside) (expr_word p.words b beside) }
 {
     let name_a = pool.words.expr(a, NAME);
     let name_b = pool.words.expr(b, NAME);
-    let number = beside(kind);
     names::same_name(pool, name_a, name_b)
-        && pool.words.expr(a, number) == pool.words.expr(b, number)
+        && pool.words.expr(a, beside) == pool.words.expr(b, beside)
+}
+
+fn same_literal(pool: &CheckedPool<'_>, a: usize, b: usize) -> bool
+    requires { let kind = expr_word (lent pool.now).words a 0 in (OneKind (lent pool.now) a b kind) × (8 ≤ kind) }
+    ensures { let p = lent pool.now in result ≡ same_bytes (string_of p.bytes p.names (expr_word p.words a 1)) (string_of p.bytes p.names (expr_word p.words b 1)) }
+{
+    let string_a = pool.words.expr(a, LITERAL_STRING);
+    let string_b = pool.words.expr(b, LITERAL_STRING);
+    names::same_string(pool.bytes, &pool.names, string_a, string_b)
 }
 
 // The fields of two rows of one kind that are no parts, the first row lifted by d from c on.
@@ -104,26 +111,25 @@ pub fn same_fields(
     a: usize,
     b: usize,
     c: usize,
-    kind: usize,
+    kind: Option<ExprKind>,
 ) -> bool
-    requires { OneKind (lent pool.now) a b kind }
-    ensures { result ≡ fields_same (lent pool.now) d c a b kind }
+    requires same { OneKind (lent pool.now) a b (expr_word (lent pool.now).words a 0) }
+    requires kind_is { Stands expr_code 9 (expr_word (lent pool.now).words a 0) kind }
+    ensures { result ≡ fields_same (lent pool.now) d c a b (expr_word (lent pool.now).words a 0) }
 {
     match kind {
-        EXPR_VAR => same_var(&pool.words, d, a, b, c),
-        EXPR_SORT => {
-            let level_a = pool.words.expr(a, SORT_LEVEL);
-            let level_b = pool.words.expr(b, SORT_LEVEL);
-            levels::same_level(pool, level_a, level_b)
-        }
-        EXPR_CONST => same_const(pool, a, b),
-        EXPR_APP => true,
-        _ if kind < EXPR_NAT => same_named(pool, a, b, kind),
-        _ => {
-            let string_a = pool.words.expr(a, LITERAL_STRING);
-            let string_b = pool.words.expr(b, LITERAL_STRING);
-            names::same_string(pool, string_a, string_b)
-        }
+        Some(ExprKind::Var) => same_var(&pool.words, d, a, b, c),
+        Some(ExprKind::Sort) => same_sort(pool, a, b),
+        Some(ExprKind::Const) => same_const(pool, a, b),
+        Some(ExprKind::App) => true,
+        Some(ExprKind::Pi) => same_named(pool, a, b, BINDER_STYLE),
+        Some(ExprKind::Lambda) => same_named(pool, a, b, BINDER_STYLE),
+        Some(ExprKind::Let) => same_named(pool, a, b, LET_NONDEP),
+        Some(ExprKind::Proj) => same_named(pool, a, b, PROJ_INDEX),
+        Some(ExprKind::Nat) => same_literal(pool, a, b),
+        Some(ExprKind::String) => same_literal(pool, a, b),
+        // Never, since a checked row has a kind.
+        None => false,
     }
 }
 
@@ -136,7 +142,7 @@ pub fn agree(pool: &CheckedPool<'_>, d: usize, a: usize, b: usize, c: usize) -> 
     if quick.is_some() {
         return quick;
     }
-    let kind = pool.words.expr(a, EXPR_KIND);
+    let kind = pool.words.expr_kind(a);
     if same_fields(pool, d, a, b, c, kind) {
         None
     } else {

@@ -25,7 +25,9 @@ fn ask_name(names: &Names<'_>, r: usize, depths: &[u8]) -> Option<usize>
     let depth = 1 + byte_at(depths, prefix);
     match names.kind(r)? {
         NameKind::Anonymous => (prefix == 0 && (low == 0 && high == 0)).then_some(1),
-        NameKind::String => (prefix < r && (low < names.tables.strings && high == 0)).then_some(depth),
+        NameKind::String => (prefix < r && (low < names.tables.strings && high == 0)).then_some(
+            depth,
+        ),
         NameKind::Number => (prefix < r).then_some(depth),
     }
 }
