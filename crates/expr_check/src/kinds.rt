@@ -13,8 +13,8 @@ ghost use Rattle.expr_check.specs.Marks.{MarkedFor};
 use byte_check::table::byte_at;
 use pool::fields::{
     APP_ARGUMENT, APP_FUNCTION, BINDER_BODY, BINDER_NAME, BINDER_STYLE, BINDER_TYPE, CONST_LIST,
-    CONST_NAME, EXPR_DEPTH, EXPR_LOOSE, LET_BODY, LET_NAME, LET_NONDEP, LET_TYPE, LET_VALUE,
-    LITERAL_STRING, PROJ_INDEX, PROJ_NAME, PROJ_STRUCTURE, SORT_LEVEL, VAR_INDEX,
+    CONST_NAME, EXPR_DEPTH, EXPR_KIND, EXPR_LOOSE, LET_BODY, LET_NAME, LET_NONDEP, LET_TYPE,
+    LET_VALUE, LITERAL_STRING, PROJ_INDEX, PROJ_NAME, PROJ_STRUCTURE, SORT_LEVEL, VAR_INDEX,
 };
 use pool::kinds::ExprKind;
 use pool::pool::Pool;
@@ -185,17 +185,17 @@ pub(crate) fn ask(pool: &Pool<'_>, marks: &[u8], r: usize, row: &[usize; 8]) -> 
         → result ≡ asked_by (read pool.now) r (expr_kind (expr_word (read pool.now).words r 0)) }
     ensures unmarked { marks.now ≡ [] → expr_word (read pool.now).words r 0 ≡ 8 → result ≡ None }
 {
-    match pool.words.expr_kind(r) {
-        Some(ExprKind::Var) => ask_var(pool, r, row),
-        Some(ExprKind::Sort) => ask_sort(pool, r, row),
-        Some(ExprKind::Const) => ask_const(pool, r, row),
-        Some(ExprKind::App) => ask_app(pool, r, row),
-        Some(ExprKind::Pi) => ask_binder(pool, r, row),
-        Some(ExprKind::Lambda) => ask_binder(pool, r, row),
-        Some(ExprKind::Let) => ask_let(pool, r, row),
-        Some(ExprKind::Proj) => ask_proj(pool, r, row),
-        Some(ExprKind::Nat) => ask_nat(pool, marks, r, row),
-        Some(ExprKind::String) => ask_string(pool, r, row),
-        None => None,
+    match ExprKind::try_from(row[EXPR_KIND]) {
+        Ok(ExprKind::Var) => ask_var(pool, r, row),
+        Ok(ExprKind::Sort) => ask_sort(pool, r, row),
+        Ok(ExprKind::Const) => ask_const(pool, r, row),
+        Ok(ExprKind::App) => ask_app(pool, r, row),
+        Ok(ExprKind::Pi) => ask_binder(pool, r, row),
+        Ok(ExprKind::Lambda) => ask_binder(pool, r, row),
+        Ok(ExprKind::Let) => ask_let(pool, r, row),
+        Ok(ExprKind::Proj) => ask_proj(pool, r, row),
+        Ok(ExprKind::Nat) => ask_nat(pool, marks, r, row),
+        Ok(ExprKind::String) => ask_string(pool, r, row),
+        Err(_) => None,
     }
 }
