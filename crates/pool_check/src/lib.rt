@@ -37,8 +37,8 @@ impl fmt::Display for PoolError {
         match self {
             PoolError::Words => f.write_str("the words are not those of a pool"),
             PoolError::Limit => f.write_str("a count or the byte area is over its limit"),
-            PoolError::Strings { row } => write!(f, "string {row} breaks a rule of strings"),
-            PoolError::Rows { row } => write!(f, "row {row} of a table breaks a rule of its rows"),
+            PoolError::Strings { row } => write!(f, "row {row} of the strings breaks a rule"),
+            PoolError::Rows { row } => write!(f, "row {row} of another table breaks a rule"),
         }
     }
 }
