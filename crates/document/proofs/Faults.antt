@@ -169,3 +169,6 @@ fault_none rows total count e = by (ltb (fault rows total count) count) (ltb-fal
     by : (b : Bool) → (b ≡ false → count ≤ fault rows total count) → None ≡ cond b (Some (fault rows total count)) None → fault rows total count ≡ count
     by true f q = cc
     by false f q = let m = fault_bound rows total count in let h = f refl in omega arith
+
+-- what the loop of `fault` keeps, and what it finds
+pub ruleset faults = (text_none, text_next, ok_is, scan-start, scan_step, fault_here, found_here)

@@ -25,8 +25,8 @@ impl Document<'_> {
             && self.total <= 65536
     }
 
-    // The rule of the kind and the two fields of row r, with `before` text bytes before it. The kinds are words of the rows: 0 text, 1 join,
-    // 2 break, 3 nest, 4 group.
+    // The rule of the kind and the two fields of row r, with `before` text bytes before it. The kinds are words of the rows: 0 text,
+    // 1 join, 2 break, 3 nest, 4 group.
     fn fields_ok(&self, before: usize, r: usize) -> bool
         requires { (before ≤ 70368744177664) × (r * 7 + 7 ≤ length self.now.rows.now) }
         ensures { result ≡ fields_ok self.now.rows.now self.now.total before r (word self.now.rows.now r 0) }
@@ -59,6 +59,7 @@ impl Document<'_> {
     }
 
     // The first faulty row.
+    #[tactic(auto, using(crate::proofs::Faults::faults))]
     pub fn fault(&self) -> Option<usize>
         requires { (self.now.count ≤ 16384) × (self.now.count * 7 ≤ length self.now.rows.now) }
         ensures { result ≡ found (fault self.now.rows.now self.now.total self.now.count) self.now.count }

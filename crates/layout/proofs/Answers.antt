@@ -10,7 +10,7 @@ use lib.ListN.{length}
 use lib.Dec.{ltb}
 use borrow.Author.Tests.{lt-ltb, le-ltb, ltb-false}
 use Rattle.document.specs.Rows.{fault, counts_ok, Accepted}
-use Rattle.document.proofs.Faults.{fault_bound, accepted_counts, accepted_sound}
+use Rattle.document.proofs.Faults.{fault_bound, found_some, fault_none, accepted_counts, accepted_sound}
 use Rattle.layout.specs.declared.cursor.Cursor.{Cursor}
 use Rattle.layout.specs.declared.Counts.{Counts}
 use Rattle.layout.specs.declared.LayoutError.{LayoutError}
@@ -115,7 +115,7 @@ module _ (width : ℕ) (ps : List Piece) (v : Cursor) (l l' : List ℕ) (emitted
 -- the whole document is laid out from the start of a listing: what is reported is what is listed
 module _ {rows : List ℕ} {count : ℕ} {texts : List ℕ} {total width : ℕ} (accepted : Accepted rows count texts total) (narrow : width ≤ 65535)
     {area : MutBor (List ℕ)} {s : listings.Listing} (begins : Begins area width s) where
-  pub begun_narrow : s.width ≤ 65535
+  begun_narrow : s.width ≤ 65535
   begun_narrow = rw begins.width_is narrow
 
   pub begun_room : Room rows texts (count - 1) s.width 0 0 s.cursor
@@ -188,3 +188,6 @@ module _ (rows : List ℕ) (count : ℕ) (texts : List ℕ) (total width : ℕ) 
   -- of what `check_given` gave, once it is known which case that is
   pub means_of : {v a : Result (Unit {0}) LayoutError} → v ≡ a → v ≡ admission rows count texts total width → Admits rows count texts total width a
   means_of e q = subst (Admits rows count texts total width) (sym q ∙ e) admission_means
+
+-- what a check that is given a document admits
+pub ruleset admits = (found_some, fault_none, admission-counts, admission-fault, admission_width, admission_none)

@@ -85,3 +85,6 @@ written [] [] h = refl
 written [] (y ∷ s) h = absurd (omega arith)
 written (x ∷ l) [] h = refl
 written (x ∷ l) (y ∷ s) h = ap (λ (t : List ℕ). y ∷ t) (written l s (omega arith))
+
+-- the painting of a piece that is nothing, and of two pieces one after the other
+pub ruleset painted = (paint-nil, paint-append)

@@ -4,6 +4,7 @@ ghost use Rattle.layout.specs.Paint.{paint};
 ghost use Rattle.basics.specs.Lent.{was, left};
 
 // Copies as many bytes as fit into the part of the area that starts at a position; there may be no such part.
+#[tactic(auto, using(crate::proofs::Painting::put_in, crate::proofs::Painting::paint_past))]
 pub fn copy_at(area: &mut [u8], position: usize, bytes: &[u8])
     ensures { left area ≡ paint (was area) position bytes.now }
 {
@@ -14,6 +15,7 @@ pub fn copy_at(area: &mut [u8], position: usize, bytes: &[u8])
 }
 
 // Writes the byte b n times, or as often as it fits, from a position on.
+#[tactic(auto, using(crate::proofs::Painting::fill_in, crate::proofs::Painting::paint_past))]
 pub fn fill_at(area: &mut [u8], position: usize, n: usize, b: u8)
     ensures { left area ≡ paint (was area) position (replicate n b) }
 {

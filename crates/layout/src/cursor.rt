@@ -62,6 +62,7 @@ impl Cursor {
     }
 
     // A broken place, which begins a line: a newline, then the row's end is set to position + width, then the nest in spaces.
+    #[tactic(auto, using(crate::proofs::Painting::painted))]
     pub fn newline(self, width: usize, area: &mut [u8], nest: usize) -> Cursor
         requires { (self.position + 1 + nest + width < 18446744073709551616) × (self.lines + 1 < 18446744073709551616) }
         ensures { Emitted width (newlineᵖ 0 nest) self result (was area) (left area) }

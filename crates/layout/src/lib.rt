@@ -8,10 +8,13 @@ ghost use Rattle.layout.specs.Contract.{admission, reported};
 ghost use Rattle.basics.specs.Lent.{was};
 ghost use Rattle.layout.specs.Frames.{Lists};
 
+use cursor::Cursor;
 use document::accepted::AcceptedDocument;
 use document::check::Document;
 use listing::Listing;
 use rows::lay_out;
+use std::error::Error;
+use std::fmt;
 
 pub mod area;
 pub mod cursor;
@@ -37,7 +40,25 @@ pub enum LayoutError {
     Listing,
 }
 
+impl fmt::Display for LayoutError {
+    fn fmt<W: fmt::Write>(&self, f: &mut fmt::Formatter<W>) -> fmt::Result {
+        match self {
+            LayoutError::Document { row } => {
+                write!(
+                    f,
+                    "the document breaks a rule at row {row} (0 too where its counts exceed its areas or limits, or it has no row)"
+                )
+            }
+            LayoutError::Width => f.write_str("the width is over 65,535"),
+            LayoutError::Listing => f.write_str("the listing is longer than its area"),
+        }
+    }
+}
+
+impl Error for LayoutError {}
+
 // 9, then 6: what a layout refuses before it lays out a row.
+#[tactic(auto, using(crate::proofs::Answers::admits))]
 pub fn check_given(document: &Document<'_>, width: usize) -> Result<(), LayoutError>
     ensures { result ≡ admission document.now.rows.now document.now.count document.now.text.now document.now.total width }
 {
@@ -54,17 +75,21 @@ pub fn check_given(document: &Document<'_>, width: usize) -> Result<(), LayoutEr
 }
 
 // What is answered once the last row is laid out: 22, or what is reported of the listing.
-pub fn report(document: &AcceptedDocument<'_>, listing: &Listing<'_>) -> Result<Counts, LayoutError>
-    ensures { result ≡ reported listing.now.cursor document.now.count document.now.total listing.now.area.now }
+pub fn report(
+    last: Cursor,
+    count: usize,
+    total: usize,
+    listing: &[u8],
+) -> Result<Counts, LayoutError>
+    ensures { result ≡ reported last count total listing.now }
 {
-    let last = listing.cursor;
     let length = last.position;
-    if listing.area.len() < length {
+    if listing.len() < length {
         return Err(LayoutError::Listing);
     }
     Ok(Counts {
-        rows: document.count,
-        text: document.total,
+        rows: count,
+        text: total,
         length,
         lines: last.lines,
         longest: last.longest,
@@ -79,11 +104,14 @@ pub fn layout_accepted(
     listing: &mut [u8],
 ) -> Result<Counts, LayoutError>
     requires { width ≤ 65535 }
-    ensures { Lists listing result (listed document.now.count document.now.total (pieces width (doc_of document.now.rows.now document.now.count document.now.text.now))) }
+    ensures { let d = document.now in Lists listing result (listed d.count d.total (pieces width (doc_of d.rows.now d.count d.text.now))) }
 {
+    let rows = document.rows;
+    let text = document.text;
     let mut listing = Listing::new(listing, width);
-    lay_out(document.count - 1, document, 0, false, 0, &mut listing);
-    report(document, &listing)
+    lay_out(document.count - 1, rows, text, 0, false, 0, &mut listing);
+    let Listing { area, cursor, .. } = listing;
+    report(cursor, document.count, document.total, area)
 }
 
 // Lays out a given document.

@@ -42,13 +42,15 @@ impl<'a> Listing<'a> {
     }
 
     pub fn newline(&mut self, nest: usize)
-        requires { (self.old.cursor.position + 1 + nest + self.old.width < 18446744073709551616) × (self.old.cursor.lines + 1 < 18446744073709551616) }
+        requires { (self.old.cursor.position + 1 + nest + self.old.width < 18446744073709551616)
+            × (self.old.cursor.lines + 1 < 18446744073709551616) }
         ensures { Emits self.old self.new (newlineᵖ 0 nest) }
     {
         self.cursor = self.cursor.newline(self.width, self.area, nest);
     }
 
     // The fit test, which is counted: whether a group of so many bytes, and what follows it up to the next break, ends in the row.
+    #[tactic(auto, using(crate::proofs::Painting::painted))]
     pub fn fits(&mut self, size: usize, next: usize) -> bool
         requires { (self.old.cursor.position + size + next < 18446744073709551616) × (self.old.cursor.tests + 1 < 18446744073709551616) }
         ensures { (result ≡ fits_bytes self.old.cursor size next) × Emits self.old self.new (testᵖ result) }

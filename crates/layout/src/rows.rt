@@ -6,7 +6,6 @@ ghost use Rattle.layout.specs.Contract.{TextRoom, BreakRoom, Room, next_of_left,
 ghost use Rattle.layout.specs.Frames.{Emits, LaysOut};
 
 use crate::listing::Listing;
-use document::accepted::AcceptedDocument;
 use document::measures::{left_of, through, word_in};
 
 // The distance from the end of the left child of the join at row r to the next break, where it is `next` at the join's end.
@@ -18,27 +17,21 @@ pub fn next_of_left(rows: &[u32], r: usize, next: usize) -> usize
     through(word_in(rows, right, 6), word_in(rows, right, 5), next)
 }
 
-pub fn lay_text(r: usize, document: &AcceptedDocument<'_>, listing: &mut Listing<'_>)
-    requires { TextRoom document.now.rows.now document.now.text.now r listing.old.width listing.old.cursor }
-    ensures { Emits listing.old listing.new (textᵖ (text_of document.now.rows.now document.now.text.now r)) }
+pub fn lay_text(r: usize, rows: &[u32], text: &[u8], listing: &mut Listing<'_>)
+    requires { TextRoom rows.now text.now r listing.old.width listing.old.cursor }
+    ensures { Emits listing.old listing.new (textᵖ (text_of rows.now text.now r)) }
 {
-    let from = word_in(document.rows, r, 1);
-    let to = from + word_in(document.rows, r, 2);
-    listing.text(&document.text[from..to]);
+    let from = word_in(rows, r, 1);
+    let to = from + word_in(rows, r, 2);
+    listing.text(&text[from..to]);
 }
 
-pub fn lay_break(
-    r: usize,
-    document: &AcceptedDocument<'_>,
-    nest: usize,
-    flat: bool,
-    listing: &mut Listing<'_>,
-)
-    requires { BreakRoom document.now.rows.now r listing.old.width nest listing.old.cursor }
-    ensures { Emits listing.old listing.new (placed flat (word document.now.rows.now r 1) nest) }
+pub fn lay_break(r: usize, rows: &[u32], nest: usize, flat: bool, listing: &mut Listing<'_>)
+    requires { BreakRoom rows.now r listing.old.width nest listing.old.cursor }
+    ensures { Emits listing.old listing.new (placed flat (word rows.now r 1) nest) }
 {
     if flat {
-        listing.blank(word_in(document.rows, r, 1));
+        listing.blank(word_in(rows, r, 1));
     } else {
         listing.newline(nest);
     }
@@ -48,35 +41,29 @@ pub fn lay_break(
 // child would take twice the machine's stack.
 pub fn lay_out(
     r0: usize,
-    document: &AcceptedDocument<'_>,
+    rows: &[u32],
+    text: &[u8],
     nest0: usize,
     flat0: bool,
     next: usize,
     listing: &mut Listing<'_>,
 )
-    requires { Room document.now.rows.now document.now.text.now r0 listing.old.width nest0 next listing.old.cursor }
-    ensures { LaysOut document.now.rows.now document.now.text.now r0 nest0 flat0 next listing.old listing.new }
+    requires { Room rows.now text.now r0 listing.old.width nest0 next listing.old.cursor }
+    ensures { LaysOut rows.now text.now r0 nest0 flat0 next listing.old listing.new }
 {
-    let rows = document.rows;
     let mut r = r0;
     let mut nest = nest0;
     let mut flat = flat0;
     'row: loop {
         // The kinds are words of the rows, as C has them: 0 text, 1 join, 2 break, 3 nest, 4 group.
         match word_in(rows, r, 0) {
-            0 => return lay_text(r, document, listing),
+            0 => return lay_text(r, rows, text, listing),
             1 => {
                 let left = left_of(rows, r);
-                lay_out(
-                    left,
-                    document,
-                    nest,
-                    flat,
-                    next_of_left(rows, r, next),
-                    listing,
-                );
+                let past = next_of_left(rows, r, next);
+                lay_out(left, rows, text, nest, flat, past, listing);
             }
-            2 => return lay_break(r, document, nest, flat, listing),
+            2 => return lay_break(r, rows, nest, flat, listing),
             3 => nest += word_in(rows, r, 1),
             _ => flat = flat || listing.fits(word_in(rows, r, 4), next),
         }

@@ -2,7 +2,7 @@
 use Prim.Native.Nat.{ℕ, ◌*◌, ◌≤◌, ◌<◌}
 use mathlib.Core.Bool.{Bool, true, false, cond}
 use mathlib.Core.List.{List}
-use Rattle.std.proofs.Common.{Result, Ok, Err, MutBor}
+use Rattle.std.proofs.Common.{Result, Ok, Err}
 use mathlib.Core.Path.{◌≡◌, refl, sym, ap, ap₂, ◌∙◌}
 use lib.ListN.{length, replicate}
 use lib.Dec.{ltb}
@@ -17,9 +17,7 @@ use Rattle.layout.specs.Listing.{bytes_of}
 use Rattle.layout.specs.Call as first
 use Rattle.layout.specs.Call.{untouched, listed, doc_of, outcome, counts_of}
 use Rattle.layout.specs.Contract.{admission}
-use Rattle.layout.specs.declared.listing.Listing as listings
-use Rattle.layout.specs.Frames.{Begins}
-use Rattle.layout.proofs.Answers.{accepted_given, answer_listed, begun_narrow}
+use Rattle.layout.proofs.Answers.{accepted_given, answer_listed}
 use Rattle.layout_pending.specs.Contract.{Lends}
 use Rattle.layout_pending.specs.declared.PendingError.{PendingError}
 use Rattle.layout_pending.specs.declared.PendingError.TheVariants.{PendingArea}
@@ -52,12 +50,12 @@ listed_late rows text ps area = by (ltb (length area) (length (bytes_of ps)))
     by false = refl
 
 -- the areas are lent as `lay_out_pending` asks
-pub begun_lends : {rows : List ℕ} {count : ℕ} {texts : List ℕ} {total width : ℕ} {pending : List ℕ} {area : MutBor (List ℕ)} {s : listings.Listing}
-    → Accepted rows count texts total → width ≤ 65535 → Begins area width s → count * 3 ≤ length pending → Lends rows count texts s.width pending
-begun_lends {rows} {count} {texts} {total} accepted narrow begins room =
+pub accepted_lends : {rows : List ℕ} {count : ℕ} {texts : List ℕ} {total width : ℕ} {pending : List ℕ}
+    → Accepted rows count texts total → width ≤ 65535 → count * 3 ≤ length pending → Lends rows count texts width pending
+accepted_lends {rows} {count} {texts} {total} {width} accepted narrow room =
     record {
       total = total;
-      given = accepted_given rows count texts total _ accepted (begun_narrow accepted narrow begins);
+      given = accepted_given rows count texts total width accepted narrow;
       some = (accepted_counts accepted).pos;
       whole = (accepted_sound accepted).last;
       room = room;

@@ -3,6 +3,7 @@ use Prim.Native.Nat.{ℕ, suc, ◌+◌, ◌-◌, ◌*◌, ◌≤◌, ◌<◌}
 use mathlib.Core.Bool.{Bool}
 use native.Mathlib.Omega.{arith}
 use mathlib.Core.List.{List, [], ◌∷◌, append-nil}
+use Rattle.std.proofs.Common.{MutBor}
 use mathlib.Core.Path.{◌≡◌, refl, sym, ap, ◌∙◌, subst}
 use lib.ListN.{length}
 use Rattle.document.specs.Rows.{word}
@@ -12,12 +13,12 @@ use Rattle.layout.specs.Call.{doc_of}
 use Rattle.layout.specs.Listing.{bytes_of}
 use Rattle.layout.specs.declared.listing.Listing.{Listing}
 use Rattle.layout.specs.Contract.{Emitteds, LaidOut, Room}
-use Rattle.layout.specs.Frames.{Later, LaysOut}
+use Rattle.layout.specs.Frames.{Begins, Later, LaysOut}
 use Rattle.layout.proofs.Painting.{paint-nil}
 use Rattle.layout.proofs.Going.{later_still, laid_length}
 use Rattle.layout_pending.specs.declared.entries.Entry.{Entry}
 use Rattle.layout_pending.specs.Contract.{entry_at, put_at, stack, left_child, right_child, last_child, nested, grouped, whole_entry, Lends}
-use Rattle.layout_pending.specs.Frames.{Asks, LaysOutWhole}
+use Rattle.layout_pending.specs.Frames.{Asks}
 use Rattle.layout_pending.proofs.StackLaws.{Small, stack-put, stack_top, stack_none, stack-length, length-put}
 use Rattle.layout_pending.proofs.Remaining.{remaining}
 use Rattle.layout_pending.proofs.Taking.{Taking, Within, AllWithin, weight, many, head_room, taken, taken_less, left-within, right_within, join_less, taken_join}
@@ -248,14 +249,18 @@ pub record TurningOn (rows texts : List ℕ) (count : ℕ) (p0 : List ℕ) (l0 :
   pub later : Later l0 l
   pub turning : Turning rows texts count l0.width p0 l0.area.now p depth l.cursor l.area.now
 
-pub on_start : {rows texts : List ℕ} {count : ℕ} {p0 : List ℕ} {l : Listing} → Lends rows count texts l.width p0 → l.cursor ≡ start l.width → (p : List ℕ) (e : Entry)
-    → p ≡ put_at p0 0 e → e ≡ whole_entry count → TurningOn rows texts count p l p 1 l
-on_start {l = l} lends starts p e q a =
-    record { later = record { same_area = refl; width = refl }; turning = turning_start lends l.area.now p e l.cursor q a starts }
+pub on_start : {rows texts : List ℕ} {count width : ℕ} {p0 : List ℕ} {area : MutBor (List ℕ)} {l : Listing} → Lends rows count texts width p0 → Begins area width l
+    → {p : List ℕ} {e : Entry} → p ≡ put_at p0 0 e → e ≡ whole_entry count → TurningOn rows texts count p l p 1 l
+on_start {rows} {texts} {count} {width} {p0} {area} {l} lends begins {p} {e} q a =
+    let lends' : Lends rows count texts l.width p0 = subst (λ (w : ℕ). Lends rows count texts w p0) (sym begins.width_is) lends in
+    let starts : l.cursor ≡ start l.width = begins.cursor in
+    record { later = record { same_area = refl; width = refl }; turning = turning_start lends' l.area.now p e l.cursor q a starts }
 
-pub on_end : {rows texts : List ℕ} {count : ℕ} {p0 : List ℕ} {l0 : Listing} {p : List ℕ} {depth : ℕ} {l : Listing}
-    → TurningOn rows texts count p0 l0 p depth l → depth ≤ 0 → LaysOutWhole rows count texts l0 l
-on_end g h = record { later = g.later; emitted = turning_end g.turning h }
+-- what the loop leaves at its end in the area that it was lent
+pub on_end : {rows texts : List ℕ} {count width : ℕ} {p0 : List ℕ} {area : MutBor (List ℕ)} {l0 : Listing} {p : List ℕ} {depth : ℕ} {l : Listing} {l' : List ℕ}
+    → Begins area width l0 → TurningOn rows texts count p0 l0 p depth l → depth ≤ 0 → l' ≡ l.area.now
+    → Emitteds width (pieces width (doc_of rows count texts)) (start width) l.cursor area.now l'
+on_end begins g h same = rw (same, ← begins.width_is, ← begins.bytes) (turning_end g.turning h)
 
 -- the entry at the top is e
 pub record OnTop (rows texts : List ℕ) (count : ℕ) (p0 : List ℕ) (l0 : Listing) (p : List ℕ) (depth : ℕ) (l : Listing) (e : Entry) : Type 0 where

@@ -1,6 +1,7 @@
 -- The references of a call, as the contracts speak of them.
 use Rattle.std.specs.Prelude.{ℕ, Bool, List, Result, ◌≡◌, length, replicate}
-use Rattle.basics.specs.Lent.{Area, was, left}
+use Rattle.basics.specs.Lent.{Area, Shared, was, left, held}
+use Rattle.layout.specs.declared.cursor.Cursor.{Cursor}
 use Rattle.layout.specs.declared.Counts.{Counts}
 use Rattle.layout.specs.declared.LayoutError.{LayoutError}
 use Rattle.layout.specs.declared.listing.Listing.{Listing}
@@ -32,6 +33,6 @@ pub record Asks (rows : List ℕ) (e : Entry) (l m : Listing) (flat : Bool) : Ty
   pub bytes : m.area.now ≡ l.area.now
 
 -- the pieces of the whole document are emitted, from the start
-pub record LaysOutWhole (rows : List ℕ) (count : ℕ) (texts : List ℕ) (l m : Listing) : Type 0 where
-  pub later : Later l m
-  pub emitted : Emitteds l.width (pieces l.width (doc_of rows count texts)) (start l.width) m.cursor l.area.now m.area.now
+abbrev pub LaysOutWhole : Shared → ℕ → Shared → ℕ → Area → Cursor → Type 0
+LaysOutWhole rows count texts width listing v =
+    Emitteds width (pieces width (doc_of (held rows) count (held texts))) (start width) v (was listing) (left listing)

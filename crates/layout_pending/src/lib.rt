@@ -11,8 +11,9 @@ ghost use Rattle.layout_pending.specs.Frames.{ListsPending, ListsCleared};
 
 use document::accepted::AcceptedDocument;
 use document::check::Document;
-use layout::listing::Listing;
 use layout::{Counts, LayoutError, check_given, report};
+use std::error::Error;
+use std::fmt;
 use turns::lay_out_pending;
 
 pub mod entries;
@@ -33,6 +34,19 @@ impl From<LayoutError> for PendingError {
     }
 }
 
+impl fmt::Display for PendingError {
+    fn fmt<W: fmt::Write>(&self, f: &mut fmt::Formatter<W>) -> fmt::Result {
+        match self {
+            PendingError::Layout { error } => write!(f, "{error}"),
+            PendingError::PendingArea => {
+                f.write_str("the pending area is shorter than three words for each document row")
+            }
+        }
+    }
+}
+
+impl Error for PendingError {}
+
 // Lays out a document that was accepted before, and clears the pending area.
 fn layout_accepted(
     document: &AcceptedDocument<'_>,
@@ -41,12 +55,19 @@ fn layout_accepted(
     listing: &mut [u8],
 ) -> Result<Counts, LayoutError>
     requires { (width ≤ 65535) × (document.now.count * 3 ≤ length pending.old) }
-    ensures { ListsCleared pending listing result (listed document.now.count document.now.total (pieces width (doc_of document.now.rows.now document.now.count document.now.text.now))) }
+    ensures { let d = document.now in
+        ListsCleared pending listing result (listed d.count d.total (pieces width (doc_of d.rows.now d.count d.text.now))) }
 {
-    let mut listing = Listing::new(listing, width);
-    lay_out_pending(document, pending, &mut listing);
+    let last = lay_out_pending(
+        document.rows,
+        document.count,
+        document.text,
+        width,
+        pending,
+        listing,
+    );
     pending.fill(0);
-    report(document, &listing)
+    report(last, document.count, document.total, listing)
 }
 
 // Lays out a given document.
@@ -56,7 +77,7 @@ pub fn layout_pending(
     pending: &mut [u32],
     listing: &mut [u8],
 ) -> Result<Counts, PendingError>
-    ensures { ListsPending pending listing result (outcome_pending document.now.rows.now document.now.count document.now.text.now document.now.total width) }
+    ensures { let d = document.now in ListsPending pending listing result (outcome_pending d.rows.now d.count d.text.now d.total width) }
 {
     check_given(document, width)?;
     if pending.len() < document.count * 3 {

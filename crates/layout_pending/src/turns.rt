@@ -1,16 +1,16 @@
 // The layout as a loop: the top entry is taken until none is left. No function calls itself.
 ghost use Rattle.std.specs.Prelude.{◌≡◌, ◌+◌, ◌*◌, ◌≤◌, ◌<◌, length};
-ghost use Rattle.layout.specs.Layout.{start};
 ghost use Rattle.layout_pending.specs.Contract.{TestRoom, Lends};
 ghost use Rattle.layout_pending.specs.Frames.{Asks, LaysOutWhole};
 
 use crate::entries::{Entry, entry_at, put};
-use document::accepted::AcceptedDocument;
 use document::measures::word_in;
+use layout::cursor::Cursor;
 use layout::listing::Listing;
 use layout::rows::{lay_break, lay_text};
 
 // Whether a group is flat: inside a flat one it is, and is not tested.
+#[tactic(auto, using(layout::proofs::Painting::painted))]
 fn is_flat(rows: &[u32], e: Entry, listing: &mut Listing<'_>) -> bool
     requires { TestRoom rows.now e listing.old.cursor }
     ensures { Asks rows.now e listing.old listing.new result }
@@ -18,18 +18,20 @@ fn is_flat(rows: &[u32], e: Entry, listing: &mut Listing<'_>) -> bool
     e.flat || listing.fits(word_in(rows, e.row, 4), e.next)
 }
 
-// Lays out a document that was accepted.
+// Lays out the rows of an accepted document, from the start of the listing.
 pub fn lay_out_pending(
-    document: &AcceptedDocument<'_>,
+    rows: &[u32],
+    count: usize,
+    text: &[u8],
+    width: usize,
     pending: &mut [u32],
-    listing: &mut Listing<'_>,
-)
-    requires lends { Lends document.now.rows.now document.now.count document.now.text.now listing.old.width pending.old }
-    requires starts { listing.old.cursor ≡ start listing.old.width }
-    ensures { LaysOutWhole document.now.rows.now document.now.count document.now.text.now listing.old listing.new }
+    listing: &mut [u8],
+) -> Cursor
+    requires { Lends rows.now count text.now width pending.old }
+    ensures { LaysOutWhole rows count text width listing result }
 {
-    let rows = document.rows;
-    put(pending, 0, Entry::whole(document.count));
+    let mut listing = Listing::new(listing, width);
+    put(pending, 0, Entry::whole(count));
     let mut depth: usize = 1;
     while 0 < depth {
         let top = depth - 1;
@@ -37,7 +39,7 @@ pub fn lay_out_pending(
         // The kinds, as in `layout::rows`: 0 text, 1 join, 2 break, 3 nest, 4 group.
         match word_in(rows, e.row, 0) {
             0 => {
-                lay_text(e.row, document, listing);
+                lay_text(e.row, rows, text, &mut listing);
                 depth = top;
             }
             1 => {
@@ -46,7 +48,7 @@ pub fn lay_out_pending(
                 depth += 1;
             }
             2 => {
-                lay_break(e.row, document, e.nest, e.flat, listing);
+                lay_break(e.row, rows, e.nest, e.flat, &mut listing);
                 depth = top;
             }
             3 => put(
@@ -55,9 +57,10 @@ pub fn lay_out_pending(
                 e.last_child(e.nest + word_in(rows, e.row, 1), e.flat),
             ),
             _ => {
-                let flat = is_flat(rows, e, listing);
+                let flat = is_flat(rows, e, &mut listing);
                 put(pending, top, e.last_child(e.nest, flat));
             }
         }
     }
+    listing.cursor
 }

@@ -61,7 +61,8 @@ pub fn load(data: &[u8], at: usize, n: usize, area: &mut [u32]) {
     }
 }
 
-// Whether an area holds the wanted items, or as many as it has room for, and `rest` after them.
+// Whether an area holds the wanted items, or as many as it has room for, and `rest` after them. That the iterator can go on, `can_next`, is
+// what Rattle asks of each call that takes items from an iterator of a type parameter.
 pub fn holds<T: PartialEq + Copy, W: ExactSizeIterator<Item = T> + Drop>(
     area: &[T],
     wanted: W,

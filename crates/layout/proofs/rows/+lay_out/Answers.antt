@@ -26,8 +26,8 @@ returns-in-2 t c =
 pub left_of-left-requires : goal.left_of-left-requires
 left_of-left-requires t c = left_asks (room_now c.row.invariant) (sym c.word_in.ensures.0 ∙ c.in-1.is)
 
-pub next_of_left-requires : goal.next_of_left-requires
-next_of_left-requires t c = next_asks (room_now c.row.invariant) (sym c.word_in.ensures.0 ∙ c.in-1.is)
+pub next_of_left-past-requires : goal.next_of_left-past-requires
+next_of_left-past-requires t c = next_asks (room_now c.row.invariant) (sym c.word_in.ensures.0 ∙ c.in-1.is)
 
 pub lay_out-requires : goal.lay_out-requires
 lay_out-requires t c =
@@ -36,7 +36,7 @@ lay_out-requires t c =
     let some = (left_asks (room_now g) join).0 in
     let left = c.left_of-left.ensures in
     let down = g.going.down in
-    (omega arith, room_left (room_now g) _ _ join left c.next_of_left.ensures.1)
+    (omega arith, room_left (room_now g) _ _ join left c.next_of_left-past.ensures.1)
 
 pub overflow_sub-r : goal.overflow_sub-r
 overflow_sub-r t c =
@@ -61,7 +61,7 @@ row-preserved t c =
     let g = c.row.invariant in
     let kind = sym c.word_in.ensures.0 in
     elim c.match-word_in.branch [
-      | in-1 w ↦ rw (w.listing-is, w.nest-is, w.flat-is) (on_join g (kind ∙ w.in-1.is) w.left_of-left.ensures w.next_of_left.ensures.0 w.lay_out.ensures)
+      | in-1 w ↦ rw (w.listing-is, w.nest-is, w.flat-is) (on_join g (kind ∙ w.in-1.is) w.left_of-left.ensures w.next_of_left-past.ensures.0 w.lay_out.ensures)
       | in-3 w ↦ rw (w.listing-is, w.nest-is, w.flat-is) (on_nest g (kind ∙ w.in-3.is) w.word_in-nest.ensures.0)
       | in_default+then-flat w ↦
           let group = kind_rest _ (omega arith) in

@@ -6,7 +6,7 @@ decreases-lay_out l = l.r0
 
 abbrev pub invariant-row : goal.invariant-row
 invariant-row l =
-    GoingOn l.document.rows.now l.document.text.now l.r0 l.nest0 l.flat0 l.next l.initial.listing l.r l.nest l.flat l.listing
+    GoingOn l.rows l.text l.r0 l.nest0 l.flat0 l.next l.initial.listing l.r l.nest l.flat l.listing
 
 abbrev pub decreases-row : goal.decreases-row
 decreases-row l = l.r

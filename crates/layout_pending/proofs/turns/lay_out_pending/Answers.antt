@@ -1,6 +1,7 @@
 use Prim.Native.Nat.{suc}
 use native.Mathlib.Omega.{arith}
 use mathlib.Core.Path.{sym, ◌∙◌}
+use Rattle.std.proofs.Common.{rules}
 use Rattle.document.proofs.Words.{kind_rest}
 use Rattle.layout.proofs.Cases.{row_inside, text_asks, break_asks}
 use Rattle.layout.proofs.Going.{lays_text, lays_break}
@@ -11,7 +12,7 @@ use Rattle.layout_pending.proofs.Turning.{nest_asks, on_nest, nest_less, group_a
 use Rattle.layout_pending.proofs.turns.lay_out_pending.Goals as goal
 
 pub loop-depth-init : goal.loop-depth-init
-loop-depth-init c = on_start c.requires.lends c.requires.starts _ _ c.put.ensures c.whole.ensures
+loop-depth-init c = on_start c.requires c.new-listing.ensures c.put.ensures c.whole.ensures
 
 pub entry_at-e-requires : goal.entry_at-e-requires
 entry_at-e-requires c = top_room c.loop-depth.invariant.turning c.loop-depth-test.true
@@ -150,4 +151,4 @@ loop-depth-preserved c =
     on_group t (sym c.word_in.ensures.0 ∙ group.1) c.is_flat-flat.ensures c.last_child-in_default.ensures c.put-in_default.ensures
 
 pub returns : goal.returns
-returns c = on_end c.loop-depth.invariant c.loop-depth-test.false
+returns c = on_end c.new-listing.ensures c.loop-depth.invariant c.loop-depth-test.false (search rules)

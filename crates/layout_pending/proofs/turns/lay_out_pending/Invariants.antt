@@ -5,7 +5,7 @@ use Rattle.layout_pending.proofs.turns.lay_out_pending.Given as goal
 
 abbrev pub invariant-loop-depth : goal.invariant-loop-depth
 invariant-loop-depth l =
-    TurningOn l.document.rows.now l.document.text.now l.document.count l.initial.pending l.initial.listing l.pending l.depth l.listing
+    TurningOn l.rows l.text l.count l.initial.pending l.initial.listing l.pending l.depth l.listing
 
 abbrev pub decreases-loop-depth : goal.decreases-loop-depth
-decreases-loop-depth l = weight l.document.rows.now (stack l.pending l.depth)
+decreases-loop-depth l = weight l.rows (stack l.pending l.depth)

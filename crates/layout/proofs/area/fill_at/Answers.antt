@@ -1,9 +1,0 @@
-use mathlib.Core.Path.{sym}
-use Rattle.layout.proofs.Painting.{fill_in, paint_past}
-use Rattle.layout.proofs.area.fill_at.Goals as goal
-
-pub returns-then-position-area : goal.returns-then-position-area
-returns-then-position-area c = fill_in _ _ _ _ _ _ c.min-n.ensures (c.fill.ensures.after (λ y e. e))
-
-pub returns-else-position-area : goal.returns-else-position-area
-returns-else-position-area c = sym (paint_past _ _ _ c.if-position-area.false)
