@@ -1,10 +1,9 @@
 -- Laws of the comparison: what a walk of two rows asks and tells, and what a sweep does.
-use Prim.Native.Nat.{ℕ, suc, ◌+◌, ◌<◌}
+use Prim.Native.Nat.{ℕ, suc, ◌<◌}
 use native.Mathlib.Omega.{arith}
-use native.Mathlib.Numerals.{add-one}
 use mathlib.Core.Bool.{Bool, true, false}
 use mathlib.Core.List.{List}
-use mathlib.Core.Path.{◌≡◌, refl, sym, ap, ap₂, ◌∙◌, subst}
+use mathlib.Core.Path.{◌≡◌, refl, sym, ap, ◌∙◌, subst}
 use Rattle.basics.proofs.Booleans.{true-false, not_so}
 use Rattle.std.specs.Prelude.{Option, None}
 use Rattle.pool.specs.Tables.{Pool, E}
@@ -17,11 +16,11 @@ use Rattle.difference.specs.Walks.{first_at, Tells, Walked, Compares}
 use Rattle.difference.proofs.OrderLaws.{is_equal, equal_is, equal_trees}
 
 module _ (pool : Pool) (d a b : ℕ) where
-  rows_told : first_at (suc a) pool d 0 (a + 1) (b + 1) ≡ first_pair pool d a b
+  rows_told : first_at (suc a) pool d 0 (suc a) (suc b) ≡ first_pair pool d a b
   unfolding first_at first_pair
-  rows_told = ap₂ (first_at (suc a) pool d 0) (add-one a) (add-one b)
+  rows_told = refl
 
-  module _ (steps left : Option ℕ) (kept : List ℕ) (v : Found) (w : Walked pool d 0 (a + 1) (b + 1) steps left kept v) where
+  module _ (steps left : Option ℕ) (kept : List ℕ) (v : Found) (w : Walked pool d 0 (suc a) (suc b) steps left kept v) where
     pub walk_tells : Tells (first_pair pool d a b) v
     walk_tells = subst (λ (k : Comparison). Tells k v) rows_told (w.told (suc a) (omega arith))
 

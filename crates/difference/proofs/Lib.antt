@@ -1,3 +1,4 @@
+pub mod KindLaws
 pub mod ClassLaws
 pub mod OrderLaws
 pub mod WalkLaws

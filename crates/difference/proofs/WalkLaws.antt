@@ -1,19 +1,19 @@
 -- Laws of the walk from the back.
-use Prim.Native.Nat.{ℕ, zero, suc, ◌+◌, ◌-◌, ◌<◌, ◌≤◌}
+use Prim.Native.Nat.{ℕ, zero, suc, ◌+◌, ◌<◌, ◌≤◌}
 use native.Mathlib.Omega.{arith}
 use native.Mathlib.Numerals.{add-one}
 use mathlib.Core.Bool.{Bool, true, false}
 use mathlib.Core.List.{List}
-use lib.Dec.{eqb}
-use borrow.Author.Tests.{eqb-true, eqb-false}
 use mathlib.Core.Logic.{◌⊎◌, inl, inr}
-use mathlib.Core.Path.{◌≡◌, refl, sym, ap, ap₂, ◌∙◌, subst}
+use mathlib.Core.Path.{◌≡◌, refl, sym, ap, ◌∙◌, subst}
 use Rattle.std.specs.Prelude.{Option, Some, None}
 use Rattle.pool.specs.Tables.{Pool, E, expr_word}
 use Rattle.pool.specs.Sound.{Sound}
 use Rattle.pool.proofs.ExprUnfolds.{kind_small}
-use Rattle.occurrence.specs.Parts.{first_part, second_part, body_part}
+use Rattle.occurrence.specs.Parts.{part_of, first_part, second_part, body_part}
 use Rattle.occurrence.proofs.PartLaws.{first_lower, second_lower, body_lower}
+use Rattle.pool.specs.Codes.{Stands, expr_code}
+use Rattle.pool.specs.declared.kinds.ExprKind.{ExprKind}
 use Rattle.compare.specs.Equal.{fields_same}
 use Rattle.links.specs.Links.{Owes}
 use Rattle.equality.specs.Sweep.{tree_at}
@@ -21,6 +21,7 @@ use Rattle.difference.specs.declared.walk.Found.{Found}
 use Rattle.difference.specs.declared.walk.Found.TheVariants.{Equal, Unknown}
 use Rattle.difference.specs.Order.{Comparison, equal, differ, ◌and_then◌, first_to}
 use Rattle.difference.specs.Walks.{is_plain, Classed, KeepsIf, TwoRows, first_at, parts_at, AtOnce, Tells, TwoParts, pair_unless, Walked}
+use Rattle.difference.proofs.KindLaws.{one_word, one_code}
 use Rattle.difference.proofs.OrderLaws.{kinds_differ, fields_differ, by_parts, known_equal, equal_known}
 
 -- ---- two rows by themselves
@@ -39,23 +40,23 @@ module _ (pool : Pool) (sound : Sound pool) (known : Bool) (d c a b : ℕ) (s : 
   pub known_at_once : known ≡ true → is_plain pool.words d c a ≡ true → AtOnce pool d c a b (Some true)
   known_at_once k plain = equal_at_once (known_equal pool sound d c a b s.a_row s.b_row plain (s.known_so k))
 
-  module _ (x y : ℕ) (ex : x ≡ expr_word pool.words a 0) (ey : y ≡ expr_word pool.words b 0) where
+  module _ {x y : Option ExprKind} (ex : Stands expr_code 9 (expr_word pool.words a 0) x) (ey : Stands expr_code 9 (expr_word pool.words b 0) y) where
     pub kinds_at_once : (x ≡ y → ⊥) → AtOnce pool d c a b (Some false)
-    kinds_at_once q = differ_at_once (λ n. kinds_differ n pool d c a b small (λ z. q (ex ∙ z ∙ sym ey)))
+    kinds_at_once q = differ_at_once (λ n. kinds_differ n pool d c a b small (λ z. q (one_word ex ey z)))
 
-    module _ (q : x ≡ y) (v : Bool) (ev : v ≡ fields_same pool d c a b x) where
-      one_kind : expr_word pool.words a 0 ≡ expr_word pool.words b 0
-      one_kind = sym ex ∙ q ∙ ey
+    pub one_kind : x ≡ y → expr_word pool.words a 0 ≡ expr_word pool.words b 0
+    one_kind q = one_code small ex ey q
 
+    module _ (q : x ≡ y) {k : ℕ} (ek : k ≡ expr_word pool.words a 0) (v : Bool) (ev : v ≡ fields_same pool d c a b k) where
       fields_are : fields_same pool d c a b (expr_word pool.words a 0) ≡ v
-      fields_are = sym (ev ∙ ap (fields_same pool d c a b) ex)
+      fields_are = sym (ev ∙ ap (fields_same pool d c a b) ek)
 
       pub fields_at_once : v ≡ false → AtOnce pool d c a b (Some false)
-      fields_at_once e = differ_at_once (λ n. fields_differ n pool d c a b small one_kind (fields_are ∙ e))
+      fields_at_once e = differ_at_once (λ n. fields_differ n pool d c a b small (one_kind q) (fields_are ∙ e))
 
       pub parts_at_once : v ≡ true → AtOnce pool d c a b None
       parts_at_once e =
-          record { no = λ z. cc; yes = λ z. cc; one = λ z. one_kind; left = λ z n. by_parts n pool d c a b small one_kind (fields_are ∙ e) }
+          record { no = λ z. cc; yes = λ z. cc; one = λ z. one_kind q; left = λ z n. by_parts n pool d c a b small (one_kind q) (fields_are ∙ e) }
 
 -- ---- parts that are not there
 
@@ -67,74 +68,71 @@ pair_sure : (v : Found) (same : Bool) (a b : ℕ) → v ≡ pair_unless same a b
 pair_sure v true a b e z = cc
 pair_sure v false a b e z = cc
 
-module _ (pool : Pool) (d c : ℕ) (kept : List ℕ) (steps : Option ℕ) where
-  none_there : (x y : ℕ) → (x ≡ 0) ⊎ ((x ≡ 0 → ⊥) × (y ≡ 0)) → x ≡ y → (n : ℕ) → first_at n pool d c x y ≡ equal
+module _ (pool : Pool) (d c : ℕ) where
+  none_there : (x y : ℕ) → (x ≡ 0) ⊎ (y ≡ 0) → x ≡ y → (n : ℕ) → first_at n pool d c x y ≡ equal
   unfolding first_at
   none_there zero zero h e n = refl
   none_there zero (suc y) h e n = absurd (omega arith)
   none_there (suc x) zero h e n = absurd (omega arith)
-  none_there (suc x) (suc y) h e n = absurd (elim h [ inl p ↦ (omega arith) | inr p ↦ (omega (arith, p.1)) ])
+  none_there (suc x) (suc y) h e n = absurd (elim h [ inl p ↦ (omega arith) | inr p ↦ (omega arith) ])
 
-  one_there : (x y : ℕ) → (x ≡ 0) ⊎ ((x ≡ 0 → ⊥) × (y ≡ 0)) → (x ≡ y → ⊥) → (n : ℕ) → first_at n pool d c x y ≡ differ 0 0
+  one_there : (x y : ℕ) → (x ≡ 0) ⊎ (y ≡ 0) → (x ≡ y → ⊥) → (n : ℕ) → first_at n pool d c x y ≡ differ 0 0
   unfolding first_at
   one_there zero zero h e n = absurd (e refl)
   one_there zero (suc y) h e n = refl
   one_there (suc x) zero h e n = refl
-  one_there (suc x) (suc y) h e n = absurd (elim h [ inl p ↦ (omega arith) | inr p ↦ (omega (arith, p.1)) ])
+  one_there (suc x) (suc y) h e n = absurd (elim h [ inl p ↦ (omega arith) | inr p ↦ (omega arith) ])
 
-  module _ (x y : ℕ) (h : (x ≡ 0) ⊎ ((x ≡ 0 → ⊥) × (y ≡ 0))) (s : TwoParts pool kept x y c) where
-    pub walked_absent : (v : Found) → v ≡ pair_unless (eqb x y) 0 0 → Walked pool d c x y steps steps kept v
-    walked_absent v e =
-        record {
-          told = λ n g. pair_told _ v _ 0 0 e (λ q. none_there x y h (eqb-true x y q) n) (λ q. one_there x y h (eqb-false x y q) n);
-          true_still = s.true_so_far;
-          unlimited = λ z. z;
-          sure = λ z. pair_sure v _ 0 0 e;
-        }
+  pub walked_absent : {x y : ℕ} {kept : List ℕ} → (x ≡ 0) ⊎ (y ≡ 0) → TwoParts pool kept x y c → {steps : Option ℕ} {v : Found} {same : Bool} → v ≡ pair_unless same 0 0
+      → (same ≡ true → x ≡ y) → (same ≡ false → x ≡ y → ⊥) → Walked pool d c x y steps steps kept v
+  walked_absent {x = x} {y = y} h s {v = v} {same = same} e f g =
+      record {
+        told = λ n l. pair_told _ v same 0 0 e (λ q. none_there x y h (f q) n) (λ q. one_there x y h (g q) n);
+        true_still = s.true_so_far;
+        unlimited = λ z. z;
+        sure = λ z. pair_sure v same 0 0 e;
+      }
 
 -- ---- two rows
 
-at_both : (n : ℕ) (p : Pool) (d c x y : ℕ) → (x ≡ 0 → ⊥) → (y ≡ 0 → ⊥) → first_at n p d c x y ≡ first_to n p d c (x - 1) (y - 1)
-unfolding first_at
-at_both n p d c zero y h g = absurd (h refl)
-at_both n p d c (suc x) zero h g = absurd (g refl)
-at_both n p d c (suc x) (suc y) h g =
-    ap₂ (first_to n p d c) (let e : x ≡ suc x - 1 = omega arith in e) (let e : y ≡ suc y - 1 = omega arith in e)
-
 -- two rows that are there, before the step s and after it
-pub record Rows (pool : Pool) (d x y c : ℕ) (s s' : Option ℕ) : Type 0 where
-  pub x_there : x ≡ 0 → ⊥
-  pub y_there : y ≡ 0 → ⊥
+pub record Rows (pool : Pool) (d x y c a b : ℕ) (s s' : Option ℕ) : Type 0 where
+  pub x_is : x ≡ suc a
+  pub y_is : y ≡ suc b
   pub x_row : x ≤ E pool.words
   pub y_row : y ≤ E pool.words
   pub room : c + x ≤ 1099511627776
   pub unlimited : s ≡ None → s' ≡ None
 
-pub rows_of : (pool : Pool) (kept : List ℕ) (d x y c : ℕ) (s s' : Option ℕ) (r : Bool) → TwoParts pool kept x y c → (x ≡ 0 → ⊥) → (y ≡ 0 → ⊥)
-    → (s ≡ None → (r ≡ true) × (s' ≡ None)) → Rows pool d x y c s s'
-rows_of pool kept d x y c s s' r t nx ny u =
-    record { x_there = nx; y_there = ny; x_row = t.x_row; y_row = t.y_row; room = t.room; unlimited = λ e. (u e).1 }
+pub rows_of : (pool : Pool) (kept : List ℕ) (d : ℕ) (x y : Option ℕ) (c a b : ℕ) (s s' : Option ℕ) (r : Bool) → TwoParts pool kept (part_of x) (part_of y) c → x ≡ Some a
+    → y ≡ Some b → (s ≡ None → (r ≡ true) × (s' ≡ None)) → Rows pool d (part_of x) (part_of y) c a b s s'
+rows_of pool kept d x y c a b s s' r t ex ey u =
+    record { x_is = ap part_of ex; y_is = ap part_of ey; x_row = t.x_row; y_row = t.y_row; room = t.room; unlimited = λ e. (u e).1 }
 
-module _ {pool : Pool} {d x y c : ℕ} {s s' : Option ℕ} (r : Rows pool d x y c s s') where
-  rows_there : (x - 1 < E pool.words) × (y - 1 < E pool.words)
-  rows_there = (omega (arith, r.x_row, r.x_there), omega (arith, r.y_row, r.y_there))
+module _ {pool : Pool} {d x y c a b : ℕ} {s s' : Option ℕ} (r : Rows pool d x y c a b s s') where
+  rows_there : (a < E pool.words) × (b < E pool.words)
+  rows_there = (omega (arith, r.x_row, r.x_is), omega (arith, r.y_row, r.y_is))
 
-  pub ask_rows : {kept kept' : List ℕ} {known : Bool} → TwoParts pool kept x y c → Classed kept kept' (x - 1) (y - 1) known → TwoRows pool known (x - 1) (y - 1)
+  at_both : (n : ℕ) → first_at n pool d c x y ≡ first_to n pool d c a b
+  unfolding first_at
+  at_both n = rw (r.x_is, r.y_is)
+
+  pub ask_rows : {kept kept' : List ℕ} {known : Bool} → TwoParts pool kept x y c → Classed kept kept' a b known → TwoRows pool known a b
   ask_rows t k =
       record { a_row = rows_there.0; b_row = rows_there.1; known_so = λ e. k.one e (tree_at pool) t.true_so_far }
 
-  pub still : {kept kept' : List ℕ} {known : Bool} → TwoParts pool kept x y c → Classed kept kept' (x - 1) (y - 1) known → Owes (tree_at pool) (tree_at pool) kept'
+  pub still : {kept kept' : List ℕ} {known : Bool} → TwoParts pool kept x y c → Classed kept kept' a b known → Owes (tree_at pool) (tree_at pool) kept'
   still t k = k.keeps (tree_at pool) t.true_so_far
 
-  told_of : (f : Found) → ((n : ℕ) → x ≤ suc n → Tells (first_to (suc n) pool d c (x - 1) (y - 1)) f) → (n : ℕ) → x ≤ n → Tells (first_at n pool d c x y) f
-  told_of f t zero g = absurd (r.x_there (omega arith))
-  told_of f t (suc n) g = subst (λ (k : Comparison). Tells k f) (sym (at_both (suc n) pool d c x y r.x_there r.y_there)) (t n g)
+  told_of : (f : Found) → ((n : ℕ) → x ≤ suc n → Tells (first_to (suc n) pool d c a b) f) → (n : ℕ) → x ≤ n → Tells (first_at n pool d c x y) f
+  told_of f t zero g = absurd (omega (arith, r.x_is))
+  told_of f t (suc n) g = subst (λ (k : Comparison). Tells k f) (sym (at_both (suc n))) (t n g)
 
-  module _ {kept : List ℕ} (true_still : Owes (tree_at pool) (tree_at pool) kept) {v : Option Bool} (quick : AtOnce pool d c (x - 1) (y - 1) v) where
-    pub walked_quick : {same : Bool} → v ≡ Some same → {f : Found} → f ≡ pair_unless same (x - 1) (y - 1) → Walked pool d c x y s s' kept f
+  module _ {kept : List ℕ} (true_still : Owes (tree_at pool) (tree_at pool) kept) {v : Option Bool} (quick : AtOnce pool d c a b v) where
+    pub walked_quick : {same : Bool} → v ≡ Some same → {f : Found} → f ≡ pair_unless same a b → Walked pool d c x y s s' kept f
     walked_quick {same = same} i {f = f} e =
         record {
-          told = told_of f (λ n g. pair_told _ f same _ _ e (λ q. quick.yes (i ∙ ap Some q) (suc n) (omega arith)) (λ q. quick.no (i ∙ ap Some q) n));
+          told = told_of f (λ n g. pair_told _ f same _ _ e (λ q. quick.yes (i ∙ ap Some q) (suc n) (omega (arith, g, r.x_is))) (λ q. quick.no (i ∙ ap Some q) n));
           true_still = true_still;
           unlimited = r.unlimited;
           sure = λ z. pair_sure f same _ _ e;
@@ -152,26 +150,20 @@ unfolding ◌and_then◌
 told_next k l v e t = rw e t
 
 -- two rows of the kind k whose parts say whether they are equal
-pub record Open (pool : Pool) (d x y c : ℕ) (s s' : Option ℕ) (kind : ℕ) : Type 0 where
-  pub rows : Rows pool d x y c s s'
-  pub x_kind : kind ≡ expr_word pool.words (x - 1) 0
-  pub y_kind : kind ≡ expr_word pool.words (y - 1) 0
-  pub by : (n : ℕ) → first_to (suc n) pool d c (x - 1) (y - 1) ≡ parts_at n pool d c (x - 1) (y - 1) kind
+pub record Open (pool : Pool) (d x y c a b : ℕ) (s s' : Option ℕ) (kind : ℕ) : Type 0 where
+  pub rows : Rows pool d x y c a b s s'
+  pub x_kind : kind ≡ expr_word pool.words a 0
+  pub y_kind : kind ≡ expr_word pool.words b 0
+  pub by : (n : ℕ) → first_to (suc n) pool d c a b ≡ parts_at n pool d c a b kind
 
-pub open_rows : {pool : Pool} {d x y c : ℕ} {s s' : Option ℕ} → Rows pool d x y c s s' → {v : Option Bool} → AtOnce pool d c (x - 1) (y - 1) v → v ≡ None
-    → {kind : ℕ} → kind ≡ expr_word pool.words (x - 1) 0 → Open pool d x y c s s' kind
-open_rows {pool = pool} {d = d} {x = x} {y = y} {c = c} r quick e ek =
-    record { rows = r; x_kind = ek; y_kind = ek ∙ quick.one e; by = λ n. quick.left e n ∙ ap (parts_at n pool d c (x - 1) (y - 1)) (sym ek) }
+pub open_rows : {pool : Pool} {d x y c a b : ℕ} {s s' : Option ℕ} → Rows pool d x y c a b s s' → {v : Option Bool} → AtOnce pool d c a b v → v ≡ None
+    → Open pool d x y c a b s s' (expr_word pool.words a 0)
+open_rows r quick e =
+    record { rows = r; x_kind = refl; y_kind = quick.one e; by = quick.left e }
 
-module _ {pool : Pool} (sound : Sound pool) {d x y c : ℕ} {s s' : Option ℕ} {kind : ℕ} (o : Open pool d x y c s s' kind) where
+module _ {pool : Pool} (sound : Sound pool) {d x y c a b : ℕ} {s s' : Option ℕ} {kind : ℕ} (o : Open pool d x y c a b s s' kind) where
   abbrev ws : List ℕ
   ws = pool.words
-
-  abbrev a : ℕ
-  a = x - 1
-
-  abbrev b : ℕ
-  b = y - 1
 
   there : (a < E ws) × (b < E ws)
   there = rows_there o.rows
@@ -182,11 +174,11 @@ module _ {pool : Pool} (sound : Sound pool) {d x y c : ℕ} {s s' : Option ℕ} 
 
   below : (l : List ℕ) (u w e : ℕ) → Owes (tree_at pool) (tree_at pool) l → u ≤ a → w ≤ b → e ≤ c + 1 → Asks l u w e
   below l u w e q g f r = (
-    omega (arith, o.rows.x_there),
+    omega (arith, o.rows.x_is),
     record {
       x_row = omega (arith, there.0);
       y_row = omega (arith, there.1);
-      room = omega (arith, o.rows.room, o.rows.x_there);
+      room = omega (arith, o.rows.room, o.rows.x_is);
       true_so_far = q;
     },
   )
@@ -206,9 +198,9 @@ module _ {pool : Pool} (sound : Sound pool) {d x y c : ℕ} {s s' : Option ℕ} 
 
   told : (v : Found) → Says (λ n. body n and_then (second n and_then first n)) v → (n : ℕ) → x ≤ n → Tells (first_at n pool d c x y) v
   unfolding parts_at
-  told v t zero g = absurd (o.rows.x_there (omega arith))
+  told v t zero g = absurd (omega (arith, o.rows.x_is))
   told v t (suc n) g =
-      subst (λ (k : Comparison). Tells k v) (sym (at_both (suc n) pool d c x y o.rows.x_there o.rows.y_there ∙ o.by n)) (t n g)
+      subst (λ (k : Comparison). Tells k v) (sym (at_both o.rows (suc n) ∙ o.by n)) (t n g)
 
   module _ {u w : ℕ} (eu : u ≡ body_part ws a kind) (ew : w ≡ body_part ws b kind) where
     body_low : (u ≤ a) × (w ≤ b)
@@ -218,7 +210,7 @@ module _ {pool : Pool} (sound : Sound pool) {d x y c : ℕ} {s s' : Option ℕ} 
     ask_bodies {l = l} q = below l u w (c + 1) q body_low.0 body_low.1 (omega arith)
 
     pub bodies : {t t' : Option ℕ} {l : List ℕ} {v : Found} → Walked pool d (c + 1) u w t t' l v → Says body v
-    bodies k n g = rw (← add-one c, ← eu, ← ew) (k.told n (omega (arith, body_low.0, o.rows.x_there)))
+    bodies k n g = rw (← add-one c, ← eu, ← ew) (k.told n (omega (arith, body_low.0, o.rows.x_is)))
 
   module _ {u w : ℕ} (eu : u ≡ second_part ws a kind) (ew : w ≡ second_part ws b kind) where
     second_low : (u ≤ a) × (w ≤ b)
@@ -228,7 +220,7 @@ module _ {pool : Pool} (sound : Sound pool) {d x y c : ℕ} {s s' : Option ℕ} 
     ask_seconds {l = l} q = below l u w c q second_low.0 second_low.1 (omega arith)
 
     pub seconds : {t t' : Option ℕ} {l : List ℕ} {v : Found} → Walked pool d c u w t t' l v → Says second v
-    seconds k n g = rw (← eu, ← ew) (k.told n (omega (arith, second_low.0, o.rows.x_there)))
+    seconds k n g = rw (← eu, ← ew) (k.told n (omega (arith, second_low.0, o.rows.x_is)))
 
   module _ {u w : ℕ} (eu : u ≡ first_part ws a kind) (ew : w ≡ first_part ws b kind) where
     first_low : (u ≤ a) × (w ≤ b)
@@ -238,7 +230,7 @@ module _ {pool : Pool} (sound : Sound pool) {d x y c : ℕ} {s s' : Option ℕ} 
     ask_firsts {l = l} q = below l u w c q first_low.0 first_low.1 (omega arith)
 
     pub firsts : {t t' : Option ℕ} {l : List ℕ} {v : Found} → Walked pool d c u w t t' l v → Says first v
-    firsts k n g = rw (← eu, ← ew) (k.told n (omega (arith, first_low.0, o.rows.x_there)))
+    firsts k n g = rw (← eu, ← ew) (k.told n (omega (arith, first_low.0, o.rows.x_is)))
 
   -- from a walk of parts to one of the rows: what it leaves of the steps and of what was kept
   module _ {u w e : ℕ} {t t' : Option ℕ} {l : List ℕ} {v : Found} (k : Walked pool d e u w t t' l v) (on : s ≡ None → t ≡ None) where
@@ -260,6 +252,6 @@ module _ {pool : Pool} (sound : Sound pool) {d x y c : ℕ} {s s' : Option ℕ} 
         ended l'
         (m.keeps (tree_at pool) k.true_still
         (λ e plain.
-        equal_known pool sound d c a b there.0 there.1 plain x (omega (arith, o.rows.x_there))
-        (sym (at_both x pool d c x y o.rows.x_there o.rows.y_there) ∙ (told v says x (omega arith)).yes e)))
+        equal_known pool sound d c a b there.0 there.1 plain x (omega (arith, o.rows.x_is))
+        (sym (at_both o.rows x) ∙ (told v says x (omega arith)).yes e)))
         says

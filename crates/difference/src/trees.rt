@@ -21,7 +21,7 @@ fn try_steps(pool: &CheckedPool<'_>, a: usize, b: usize, d: usize, steps: usize)
 {
     let mut kept = [0u32; 1];
     let mut left = Some(steps);
-    walk(pool, &mut kept, &mut left, d, a + 1, b + 1, 0)
+    walk(pool, &mut kept, &mut left, d, Some(a), Some(b), 0)
 }
 
 // Without a limit, over an array of N rows: it is as long as the pool asks, so that a small one clears little. Not inlined, so that the
@@ -33,7 +33,7 @@ fn search_in<const N: usize>(pool: &CheckedPool<'_>, a: usize, b: usize, d: usiz
 {
     let mut kept = [0u32; N];
     let mut unlimited = None;
-    walk(pool, &mut kept, &mut unlimited, d, a + 1, b + 1, 0)
+    walk(pool, &mut kept, &mut unlimited, d, Some(a), Some(b), 0)
 }
 
 fn search(pool: &CheckedPool<'_>, a: usize, b: usize, d: usize) -> Found

@@ -2,11 +2,12 @@
 // so that no two rows are walked through twice; only where the first one is lifted nothing is kept.
 ghost use Rattle.std.specs.Prelude.{◌≡◌, true, None};
 ghost use Rattle.pool.specs.Views.{lent};
+ghost use Rattle.occurrence.specs.Parts.{part_of};
 ghost use Rattle.difference.specs.Walks.{is_plain, KeepsIf, AtOnce, TwoRows, TwoParts, pair_unless, Walked};
 
 use super::classes::{same_class, unite};
 use compare::trees::same_fields;
-use occurrence::parts;
+use occurrence::parts::Parts;
 use pool::checked::CheckedPool;
 use pool::fields::{EXPR_KIND, EXPR_LOOSE};
 use pool::words::Words;
@@ -42,10 +43,10 @@ fn at_once(
     if known && is_plain(&pool.words, d, a, c) {
         return Some(true);
     }
-    let kind = pool.words.expr(a, EXPR_KIND);
-    if kind != pool.words.expr(b, EXPR_KIND) {
+    if pool.words.expr_kind(a) != pool.words.expr_kind(b) {
         return Some(false);
     }
+    let kind = pool.words.expr(a, EXPR_KIND);
     if !same_fields(pool, d, a, b, c, kind) {
         return Some(false);
     }
@@ -97,41 +98,35 @@ pub(crate) fn walk(
     kept: &mut [u32],
     steps: &mut Option<usize>,
     d: usize,
-    x: usize,
-    y: usize,
+    x: Option<usize>,
+    y: Option<usize>,
     c: usize,
 ) -> Found
-    requires { TwoParts (lent pool.now) kept.old x y c }
-    ensures { Walked (lent pool.now) d c x y steps.old steps.new kept.new result }
+    requires { TwoParts (lent pool.now) kept.old (part_of x) (part_of y) c }
+    ensures { Walked (lent pool.now) d c (part_of x) (part_of y) steps.old steps.new kept.new result }
 {
-    if x == 0 || y == 0 {
+    let (Some(a), Some(b)) = (x, y) else {
         return pair_unless(x == y, 0, 0);
-    }
+    };
     if !spend(steps) {
         return Found::Unknown;
     }
-    let (a, b) = (x - 1, y - 1);
     let known = same_class(kept, a, b);
     if let Some(same) = at_once(pool, known, d, a, b, c) {
         return pair_unless(same, a, b);
     }
-    let words = &pool.words;
-    let kind = words.expr(a, EXPR_KIND);
-    let body_a = parts::body_part(words, a, kind);
-    let body_b = parts::body_part(words, b, kind);
-    let body = walk(pool, kept, steps, d, body_a, body_b, c + 1);
+    let kind = pool.words.expr_kind(a);
+    let of_a = Parts::of(&pool.words, a, kind);
+    let of_b = Parts::of(&pool.words, b, kind);
+    let body = walk(pool, kept, steps, d, of_a.body, of_b.body, c + 1);
     if body != Found::Equal {
         return body;
     }
-    let second_a = parts::second_part(words, a, kind);
-    let second_b = parts::second_part(words, b, kind);
-    let second = walk(pool, kept, steps, d, second_a, second_b, c);
+    let second = walk(pool, kept, steps, d, of_a.second, of_b.second, c);
     if second != Found::Equal {
         return second;
     }
-    let first_a = parts::first_part(words, a, kind);
-    let first_b = parts::first_part(words, b, kind);
-    let first = walk(pool, kept, steps, d, first_a, first_b, c);
-    keep_equal(words, kept, first, d, a, b, c);
+    let first = walk(pool, kept, steps, d, of_a.first, of_b.first, c);
+    keep_equal(&pool.words, kept, first, d, a, b, c);
     first
 }

@@ -1,25 +1,28 @@
 // The parts of two rows of one kind, which have to be equal, put aside: false where there is no room for them.
 ghost use Rattle.std.specs.Prelude.{◌≡◌, true, ◌↔◌};
+ghost use Rattle.occurrence.specs.Parts.{part_of};
 ghost use Rattle.equality.specs.Sweep.{PartBy, PartsBy, PutParts, LinkParts};
 
 use links::{link, put};
-use occurrence::parts;
-use pool::fields::EXPR_KIND;
+use occurrence::parts::Parts;
 use pool::words::Words;
 
 // One part of each, or of neither: `put` is told whether they stand under one binder more.
 fn put_part<F: FnMut(bool, usize, usize) -> bool>(
     put: &mut F,
     below: bool,
-    x: usize,
-    y: usize,
+    x: Option<usize>,
+    y: Option<usize>,
 ) -> bool
     requires callable { F.IsAlwaysCallable put.old }
-    requires alike { x ≡ 0 ↔ y ≡ 0 }
+    requires alike { part_of x ≡ 0 ↔ part_of y ≡ 0 }
     ensures callable { F.IsAlwaysCallable put.new }
-    ensures by { result ≡ true → PartBy (λ b u w f g. F.step f b u w true g) below x y put.old put.new }
+    ensures by { result ≡ true → PartBy (λ b u w f g. F.step f b u w true g) below (part_of x) (part_of y) put.old put.new }
 {
-    x == 0 || put(below, x - 1, y - 1)
+    let (Some(x), Some(y)) = (x, y) else {
+        return true;
+    };
+    put(below, x, y)
 }
 
 // All parts of rows a and b, of a's kind.
@@ -32,20 +35,12 @@ fn each_part<F: FnMut(bool, usize, usize) -> bool>(
     requires { F.IsAlwaysCallable put.old }
     ensures { result ≡ true → PartsBy (λ b u w f g. F.step f b u w true g) words.now.words.now a b put.old put.new }
 {
-    let kind = words.expr(a, EXPR_KIND);
-    let first_a = parts::first_part(words, a, kind);
-    let first_b = parts::first_part(words, b, kind);
-    if !put_part(put, false, first_a, first_b) {
-        return false;
-    }
-    let second_a = parts::second_part(words, a, kind);
-    let second_b = parts::second_part(words, b, kind);
-    if !put_part(put, false, second_a, second_b) {
-        return false;
-    }
-    let body_a = parts::body_part(words, a, kind);
-    let body_b = parts::body_part(words, b, kind);
-    put_part(put, true, body_a, body_b)
+    let kind = words.expr_kind(a);
+    let of_a = Parts::of(words, a, kind);
+    let of_b = Parts::of(words, b, kind);
+    put_part(put, false, of_a.first, of_b.first)
+        && put_part(put, false, of_a.second, of_b.second)
+        && put_part(put, true, of_a.body, of_b.body)
 }
 
 // What stands under one binder more goes into the second array.

@@ -1,9 +1,9 @@
 -- Laws of the parts of a row: they are lower, and what holds of a row's tree holds of its parts.
-use Prim.Native.Nat.{ℕ, zero, suc, ◌+◌, ◌-◌, ◌<◌, ◌≤◌, max}
+use Prim.Native.Nat.{ℕ, zero, suc, ◌+◌, ◌<◌, ◌≤◌, max}
 use native.Mathlib.Omega.{arith}
 use native.Mathlib.Numerals.{add-one}
-use mathlib.Core.Bool.{false, ◌||◌}
-use mathlib.Core.Path.{◌≡◌, refl, sym, ap, ◌∙◌}
+use mathlib.Core.Bool.{◌||◌}
+use mathlib.Core.Path.{◌≡◌, refl, ap, ◌∙◌}
 use borrow.Author.Tests.{ne_eqb}
 use Rattle.basics.proofs.Booleans.{or-false}
 use Rattle.pool.specs.Tables.{Pool, E, expr_word}
@@ -58,15 +58,6 @@ module _ (p : Pool) (sound : Sound p) (r : ℕ) (h : r < E p.words) where
       (w 0) (kind_small p sound r h) refl
 
 -- a variable in a part
-pub no_part : (p : Pool) (i part : ℕ) → part ≡ 0 → false ≡ occurs_at p i part
-unfolding occurs_at
-no_part p i part e = sym (ap (occurs_at p i) e)
-
-pub a_part : (p : Pool) (i part : ℕ) → (part ≡ 0 → ⊥) → occurs i (expr_at p (part - 1)) ≡ occurs_at p i part
-unfolding occurs_at
-a_part p i zero n = absurd (n refl)
-a_part p i (suc r) n = let e : suc r - 1 ≡ r = omega arith in ap (λ (k : ℕ). occurs i (expr_at p k)) e
-
 at_next : (p : Pool) (i r : ℕ) → occurs_at p i (r + 1) ≡ occurs i (expr_at p r)
 unfolding occurs_at
 at_next p i r = ap (occurs_at p i) (add-one r)

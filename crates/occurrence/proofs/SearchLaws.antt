@@ -1,18 +1,26 @@
 -- Laws of the search for a variable, in the words of its code.
 use Prim.Native.Nat.{ℕ, suc, ◌+◌, ◌<◌, ◌≤◌}
+use native.Mathlib.Omega.{arith}
 use native.Mathlib.Numerals.{add-one}
-use mathlib.Core.Bool.{Bool, true, false, ◌||◌}
-use Rattle.std.specs.Prelude.{Some}
-use mathlib.Core.Path.{◌≡◌, sym, ap, ap₂, ◌∙◌, subst}
+use mathlib.Core.Bool.{Bool, true, false}
+use Rattle.std.specs.Prelude.{Option, Some, None}
+use mathlib.Core.Path.{◌≡◌, sym, ◌∙◌, subst}
+use Rattle.basics.proofs.Booleans.{or-false, or-true}
 use Rattle.pool.specs.Tables.{Pool, E, expr_word}
 use Rattle.pool.specs.Sound.{Sound}
 use Rattle.pool.specs.Tree.{occurs, loose}
 use Rattle.pool.specs.Unfold.{expr_at}
+use Rattle.pool.specs.Codes.{Stands, expr_code}
+use Rattle.pool.specs.declared.kinds.ExprKind.{ExprKind}
+use Rattle.pool.specs.declared.kinds.ExprKind.TheVariants.{Var}
 use Rattle.pool.proofs.TreeLaws.{none_above, greatest_occurs}
 use Rattle.pool.proofs.ExprUnfolds.{loose-word}
-use Rattle.occurrence.specs.Asked.{Told}
-use Rattle.occurrence.specs.Parts.{first_part, second_part, body_part, occurs_at}
+use Rattle.occurrence.specs.Asked.{Told, AtOnce, occurs_in_parts}
+use Rattle.occurrence.specs.Parts.{part_of, first_part, second_part, body_part, occurs_at}
 use Rattle.occurrence.proofs.PartLaws.{in_parts, first_lower, second_lower, body_lower}
+
+pub there_is : {part : Option ℕ} {r : ℕ} → part ≡ Some r → part_of part ≡ suc r
+there_is e = rw e
 
 -- what is answered is told
 pub told : (asked b : Bool) → b ≡ asked → Told asked (Some b)
@@ -26,42 +34,64 @@ module _ (p : Pool) (r i : ℕ) (sound : Sound p) (row : r < E p.words) (l : ℕ
   pub low_at_once : l ≤ i → false ≡ occurs i (expr_at p r)
   low_at_once h = sym (none_above i (expr_at p r) (subst (λ (x : ℕ). x ≤ i) tree_loose h))
 
-  pub last_at_once : l ≡ i + 1 → true ≡ occurs i (expr_at p r)
+  last_at_once : l ≡ i + 1 → true ≡ occurs i (expr_at p r)
   last_at_once e = sym (greatest_occurs i (expr_at p r) (sym tree_loose ∙ e ∙ add-one i))
 
-  -- its kind, and its parts
-  module _ (n : l ≡ i + 1 → ⊥) (kind : ℕ) (ek : kind ≡ expr_word p.words r 0) where
-    pub parts : occurs i (expr_at p r)
-        ≡ occurs_at p i (first_part p.words r kind) || (occurs_at p i (second_part p.words r kind) || occurs_at p (suc i) (body_part p.words r kind))
-    parts =
-        in_parts p sound r row i (λ q. n (el ∙ q ∙ sym (add-one i)))
-        ∙ ap (λ (k : ℕ). occurs_at p i (first_part p.words r k) || (occurs_at p i (second_part p.words r k) || occurs_at p (suc i) (body_part p.words r k))) (sym ek)
+  pub none_told : l ≤ i → AtOnce p r i (Some false)
+  none_told h = record { told = told _ _ (low_at_once h); small = λ e. cc; left = λ e. cc }
 
-    pub first_row : (first : ℕ) → first ≡ first_part p.words r kind → first ≤ r
-    first_row first e = rw (e, ek) (first_lower p sound r row)
+  pub last_told : l ≡ i + 1 → AtOnce p r i (Some true)
+  last_told e = record { told = told _ _ (last_at_once e); small = λ q. cc; left = λ q. cc }
 
-    pub second_row : (second : ℕ) → second ≡ second_part p.words r kind → second ≤ r
-    second_row second e = rw (e, ek) (second_lower p sound r row)
+  pub parts_left : (l ≡ i + 1 → ⊥) → i < l → l < 4294967296 → AtOnce p r i None
+  parts_left n h few =
+      record { told = λ b q. cc; small = λ q. omega arith; left = λ q. in_parts p sound r row i (λ z. n (el ∙ z ∙ sym (add-one i))) }
 
-    pub body_row : (body : ℕ) → body ≡ body_part p.words r kind → body ≤ r
-    body_row body e = rw (e, ek) (body_lower p sound r row)
+  pub var_told : (l ≡ i + 1 → ⊥) → {kind : Option ExprKind} → Stands expr_code 9 (expr_word p.words r 0) kind → kind ≡ Some Var → AtOnce p r i (Some false)
+  unfolding occurs_at first_part second_part body_part
+  var_told n k q =
+      let e : 0 ≡ expr_word p.words r 0 = rw q at k in
+      record {
+        told = told _ _ (sym (in_parts p sound r row i (λ z. n (el ∙ z ∙ sym (add-one i))) ∙ rw (← e)));
+        small = λ q. cc;
+        left = λ q. cc;
+      }
 
-    -- what was answered of the parts
-    module _ (first : ℕ) (e₁ : first ≡ first_part p.words r kind) (v₁ : Bool) (a₁ : v₁ ≡ occurs_at p i first) where
-      is₁ : occurs_at p i (first_part p.words r kind) ≡ v₁
-      is₁ = sym (a₁ ∙ ap (occurs_at p i) e₁)
+-- what was answered of the parts, as code has them
+module _ (p : Pool) (r i : ℕ) (left : occurs i (expr_at p r) ≡ occurs_in_parts p r i) where
+  module _ {f : ℕ} (e₁ : f ≡ first_part p.words r (expr_word p.words r 0)) {v₁ : Bool} (a₁ : occurs_at p i f ≡ v₁) where
+    pub first_there : v₁ ≡ true → occurs i (expr_at p r) ≡ true
+    first_there y = left ∙ rw (← e₁, a₁, y)
 
-      pub in_first : v₁ ≡ true → true ≡ occurs i (expr_at p r)
-      in_first y = sym (parts ∙ rw (is₁, y))
+  module _ {s : ℕ} (e₂ : s ≡ second_part p.words r (expr_word p.words r 0)) where
+    pub second_there : {v₂ : Bool} → occurs_at p i s ≡ v₂ → v₂ ≡ true → occurs i (expr_at p r) ≡ true
+    second_there a y = left ∙ rw (← e₂, a, y) (or-true _)
 
-      module _ (no₁ : v₁ ≡ false) (second : ℕ) (e₂ : second ≡ second_part p.words r kind) (v₂ : Bool) (a₂ : v₂ ≡ occurs_at p i second) where
-        is₂ : occurs_at p i (second_part p.words r kind) ≡ v₂
-        is₂ = sym (a₂ ∙ ap (occurs_at p i) e₂)
+    module _ (no₂ : occurs_at p i s ≡ false) {f b : ℕ} (e₁ : f ≡ first_part p.words r (expr_word p.words r 0)) (e₃ : b ≡ body_part p.words r (expr_word p.words r 0)) where
+      pub on_first : b ≡ 0 → occurs i (expr_at p r) ≡ occurs_at p i f
+      unfolding occurs_at
+      on_first n = left ∙ rw (← e₁, ← e₂, ← e₃, n, no₂) (or-false _)
 
-        pub in_second : v₂ ≡ true → true ≡ occurs i (expr_at p r)
-        in_second y = sym (parts ∙ rw (is₁, no₁, is₂, y))
+      pub on_body : occurs_at p i f ≡ false → occurs i (expr_at p r) ≡ occurs_at p (i + 1) b
+      on_body no₁ = left ∙ rw (← e₁, ← e₂, ← e₃, no₁, no₂, add-one i)
 
-        pub in_body : v₂ ≡ false → (body : ℕ) → body ≡ body_part p.words r kind → (v₃ : Bool) → v₃ ≡ occurs_at p (i + 1) body → v₃ ≡ occurs i (expr_at p r)
-        in_body no₂ body e₃ v₃ a₃ =
-            let is₃ : occurs_at p (suc i) (body_part p.words r kind) ≡ v₃ = ap₂ (occurs_at p) (sym (add-one i)) (sym e₃) ∙ sym a₃ in
-            sym (parts ∙ rw (is₁, no₁, is₂, no₂, is₃))
+-- they are lower rows
+module _ (p : Pool) (r : ℕ) (sound : Sound p) (row : r < E p.words) where
+  pub first_row : {f : ℕ} → f ≡ first_part p.words r (expr_word p.words r 0) → f ≤ r
+  first_row e = rw e (first_lower p sound r row)
+
+  pub second_row : {s : ℕ} → s ≡ second_part p.words r (expr_word p.words r 0) → s ≤ r
+  second_row e = rw e (second_lower p sound r row)
+
+  pub body_row : {b : ℕ} → b ≡ body_part p.words r (expr_word p.words r 0) → b ≤ r
+  body_row e = rw e (body_lower p sound r row)
+
+-- a part that is there
+module _ (p : Pool) (i : ℕ) {part : Option ℕ} where
+  pub no_part : part ≡ None → false ≡ occurs_at p i (part_of part)
+  unfolding occurs_at
+  no_part e = rw e
+
+  pub a_part : {r : ℕ} → part ≡ Some r → occurs_at p i (part_of part) ≡ occurs i (expr_at p r)
+  unfolding occurs_at
+  a_part e = rw e

@@ -4,33 +4,30 @@ use native.Mathlib.Omega.{arith}
 use native.Mathlib.Numerals.{add-one}
 use native.Mathlib.Nat.{one-mul}
 use mathlib.Core.List.{List}
-use mathlib.Core.Path.{◌≡◌, refl, sym, ap, ap₂, ◌∙◌, subst}
+use mathlib.Core.Path.{◌≡◌, sym, ap, ap₂, ◌∙◌, subst}
 use borrow.Author.Tests.{lt-ltb, le-ltb, le-leb, lt-leb}
 use lib.Bits.{bit_or}
 use lib.ListN.{length, get_or, set}
 use lib.Pow.{shl_exact}
+use Rattle.std.specs.Prelude.{Option, Some, None}
 use Rattle.std.proofs.lemmas.List.{get_or_past, get_or_default}
 use Rattle.pool.specs.Tables.{expr_word}
-use Rattle.occurrence.specs.Parts.{first_part, second_part, body_part}
+use Rattle.occurrence.specs.Parts.{part_of, first_part, second_part, body_part}
 use Rattle.occurrence.specs.Sets.{Kept, kept, entry_at, part_word, body_word, last_bit, row_word, row_step, sweep_rows, sweeps}
 
--- what a table has of a part
+-- what a table has of a part, as code has it
 module _ {A : Type 0} (none : A) (l : List A) where
-  pub entry_none : (part : ℕ) → part ≡ 0 → none ≡ entry_at none l part
+  pub entry_none : {part : Option ℕ} → part ≡ None → none ≡ entry_at none l (part_of part)
   unfolding entry_at
-  entry_none part e = sym (ap (entry_at none l) e)
+  entry_none e = rw e
 
-  pub entry_past : (part : ℕ) → length l < part → none ≡ entry_at none l part
+  pub entry_past : {part : Option ℕ} {r : ℕ} → part ≡ Some r → length l ≤ r → none ≡ entry_at none l (part_of part)
   unfolding entry_at
-  entry_past zero h = refl
-  entry_past (suc r) h = sym (get_or_past l r none (omega arith))
+  entry_past {r = r} e h = rw e (sym (get_or_past l r none h))
 
-  pub entry_there : (part : ℕ) (x : A) → (part ≡ 0 → ⊥) → part ≤ length l → x ≡ get_or l (part - 1) x → x ≡ entry_at none l part
+  pub entry_there : {part : Option ℕ} {r : ℕ} {x : A} → part ≡ Some r → r < length l → x ≡ get_or l r x → x ≡ entry_at none l (part_of part)
   unfolding entry_at
-  entry_there zero x n h e = absurd (n refl)
-  entry_there (suc r) x n h e =
-      let f : suc r - 1 ≡ r = omega arith in
-      e ∙ ap (λ (i : ℕ). get_or l i x) f ∙ get_or_default l r x none (omega arith)
+  entry_there {r = r} {x = x} e h q = rw e (q ∙ get_or_default l r x none h)
 
 pub no_last : (loose base : ℕ) → 64 < loose - base → 0 ≡ last_bit loose base
 unfolding last_bit

@@ -1,81 +1,104 @@
 // Whether a loose variable occurs in the tree of a row.
-ghost use Rattle.std.specs.Prelude.{◌≡◌, ◌+◌, ◌<◌, ◌≤◌};
+ghost use Rattle.std.specs.Prelude.{◌≡◌, ◌<◌, ◌≤◌};
 ghost use Rattle.pool.specs.Views.{lent};
 ghost use Rattle.pool.specs.Tables.{E};
 ghost use Rattle.pool.specs.Tree.{occurs};
 ghost use Rattle.pool.specs.Unfold.{expr_at};
-ghost use Rattle.occurrence.specs.Parts.{occurs_at};
-ghost use Rattle.occurrence.specs.Asked.{Told};
+ghost use Rattle.occurrence.specs.Parts.{part_of, occurs_at};
+ghost use Rattle.occurrence.specs.Asked.{Told, AtOnce};
 
-use super::{parts, sweep};
+use super::parts::Parts;
+use super::sweep;
 use pool::checked::CheckedPool;
-use pool::fields::{EXPR_KIND, EXPR_LOOSE};
+use pool::fields::EXPR_LOOSE;
+use pool::kinds::ExprKind;
 
-// In so many steps, which are taken off, and with no table; nothing where they do not do.
+// What a row tells by itself, by its greatest loose variable, beside which a variable has no other one; nothing where its parts say.
+#[inline(always)]
+fn at_once(pool: &CheckedPool<'_>, r: usize, i: usize) -> Option<bool>
+    requires { r < E (lent pool.now).words }
+    ensures { AtOnce (lent pool.now) r i result }
+{
+    let loose = pool.words.expr(r, EXPR_LOOSE);
+    if loose <= i {
+        return Some(false);
+    }
+    if loose == i + 1 {
+        return Some(true);
+    }
+    if pool.words.expr_kind(r) == Some(ExprKind::Var) {
+        return Some(false);
+    }
+    None
+}
+
+// In so many steps, which are taken off, and with no table; nothing where they do not do. The search goes on into a body, and where there
+// is none into the first part, by the loop: of long chains of binders and of arguments no call waits for another one.
 #[cycle(try_row)]
 fn try_row(pool: &CheckedPool<'_>, r: usize, i: usize, steps: &mut usize) -> Option<bool>
     requires { r < E (lent pool.now).words }
     ensures { Told (occurs i (expr_at (lent pool.now) r)) result }
 {
-    *steps = steps.checked_sub(1)?;
-    let loose = pool.words.expr(r, EXPR_LOOSE);
-    if loose <= i {
-        return Some(false);
+    let mut part = Some(r);
+    let mut i = i;
+    while let Some(row) = part {
+        let told = at_once(pool, row, i);
+        if told.is_some() {
+            return told;
+        }
+        *steps = steps.checked_sub(1)?;
+        let parts = Parts::of(&pool.words, row, pool.words.expr_kind(row));
+        if try_part(pool, parts.second, i, steps)? {
+            return Some(true);
+        }
+        if parts.body.is_none() {
+            part = parts.first;
+            continue;
+        }
+        if try_part(pool, parts.first, i, steps)? {
+            return Some(true);
+        }
+        part = parts.body;
+        i += 1;
     }
-    if loose == i + 1 {
-        return Some(true);
-    }
-    let kind = pool.words.expr(r, EXPR_KIND);
-    let first = parts::first_part(&pool.words, r, kind);
-    if try_part(pool, first, i, steps)? {
-        return Some(true);
-    }
-    let second = parts::second_part(&pool.words, r, kind);
-    if try_part(pool, second, i, steps)? {
-        return Some(true);
-    }
-    let body = parts::body_part(&pool.words, r, kind);
-    try_part(pool, body, i + 1, steps)
+    Some(false)
 }
 
-// A part that is not there has no variable.
+// Inlined, so that a part that tells at once costs no call.
 #[cycle(try_row)]
-fn try_part(pool: &CheckedPool<'_>, part: usize, i: usize, steps: &mut usize) -> Option<bool>
-    requires { part ≤ E (lent pool.now).words }
-    ensures { Told (occurs_at (lent pool.now) i part) result }
+#[inline(always)]
+fn try_part(
+    pool: &CheckedPool<'_>,
+    part: Option<usize>,
+    i: usize,
+    steps: &mut usize,
+) -> Option<bool>
+    requires { part_of part ≤ E (lent pool.now).words }
+    ensures { Told (occurs_at (lent pool.now) i (part_of part)) result }
 {
-    if part == 0 {
+    let Some(r) = part else {
         return Some(false);
+    };
+    let told = at_once(pool, r, i);
+    if told.is_some() {
+        return told;
     }
-    try_row(pool, part - 1, i, steps)
+    try_row(pool, r, i, steps)
 }
 
 // The search with no end to its steps, for rows past every array of a sweep: an accepted pool has none.
-#[cycle(search)]
-fn search(pool: &CheckedPool<'_>, r: usize, i: usize) -> bool
-    requires { r < E (lent pool.now).words }
-    ensures { result ≡ occurs i (expr_at (lent pool.now) r) }
+fn search(pool: &CheckedPool<'_>, part: Option<usize>, i: usize) -> bool
+    requires { part_of part ≤ E (lent pool.now).words }
+    ensures { result ≡ occurs_at (lent pool.now) i (part_of part) }
 {
-    let loose = pool.words.expr(r, EXPR_LOOSE);
-    if loose <= i {
+    let Some(r) = part else {
         return false;
+    };
+    if let Some(told) = at_once(pool, r, i) {
+        return told;
     }
-    if loose == i + 1 {
-        return true;
-    }
-    let kind = pool.words.expr(r, EXPR_KIND);
-    let first = parts::first_part(&pool.words, r, kind);
-    let second = parts::second_part(&pool.words, r, kind);
-    let body = parts::body_part(&pool.words, r, kind);
-    look(pool, first, i) || look(pool, second, i) || look(pool, body, i + 1)
-}
-
-#[cycle(search)]
-fn look(pool: &CheckedPool<'_>, part: usize, i: usize) -> bool
-    requires { part ≤ E (lent pool.now).words }
-    ensures { result ≡ occurs_at (lent pool.now) i part }
-{
-    part != 0 && search(pool, part - 1, i)
+    let parts = Parts::of(&pool.words, r, pool.words.expr_kind(r));
+    search(pool, parts.first, i) || search(pool, parts.second, i) || search(pool, parts.body, i + 1)
 }
 
 // One sweep over the rows up to r. The arrays are as long as the pool asks, so that a small one clears little.
@@ -95,7 +118,7 @@ fn sweep_all(pool: &CheckedPool<'_>, r: usize, i: usize) -> bool
     if r < 65536 {
         return sweep::swept::<65536>(&pool.words, r, i);
     }
-    search(pool, r, i)
+    search(pool, Some(r), i)
 }
 
 // Most questions are answered in few steps. Where they are not, sixteen times as many are tried once more, if a sweep would go over more

@@ -2,20 +2,24 @@
 // of all that a tree of the greatest depth can ask.
 ghost use Rattle.std.specs.Prelude.{◌≡◌, ◌+◌, ◌*◌, ◌<◌, ◌≤◌, length};
 ghost use Rattle.pool.specs.Tables.{E};
+ghost use Rattle.occurrence.specs.Parts.{part_of};
 ghost use Rattle.occurrence.specs.Sets.{kept, entry_at, lowered, body_word, last_bit, row_word, row_step, sweep_rows, sweeps, Sweep, Answers};
 
-use super::parts;
-use pool::fields::{EXPR_DEPTH, EXPR_KIND, EXPR_LOOSE};
+use super::parts::Parts;
+use pool::fields::{EXPR_DEPTH, EXPR_LOOSE};
 use pool::words::Words;
 
 // What a table has of a part.
-fn entry_at<T: Copy>(table: &[T], part: usize, none: T) -> T
-    ensures { result ≡ entry_at none table.now part }
+fn entry_at<T: Copy>(table: &[T], part: Option<usize>, none: T) -> T
+    ensures { result ≡ entry_at none table.now (part_of part) }
 {
-    if part == 0 || table.len() < part {
+    let Some(r) = part else {
+        return none;
+    };
+    if table.len() <= r {
         return none;
     }
-    table[part - 1]
+    table[r]
 }
 
 // Each variable one lower; the carry is the one after the 64.
@@ -26,8 +30,8 @@ fn lower(word: u64, carry: u64) -> u64
 }
 
 #[tactic(auto, unfolding(crate::specs::Sets::body_word))]
-fn body_word(sets: &[u64], above: &[u8], part: usize) -> u64
-    ensures { result ≡ body_word sets.now above.now part }
+fn body_word(sets: &[u64], above: &[u8], part: Option<usize>) -> u64
+    ensures { result ≡ body_word sets.now above.now (part_of part) }
 {
     lower(entry_at(sets, part, 0), u64::from(entry_at(above, part, 0)))
 }
@@ -52,10 +56,10 @@ fn row_word(words: &Words<'_>, sets: &[u64], above: &[u8], base: usize, r: usize
     if loose <= base {
         return 0;
     }
-    let kind = words.expr(r, EXPR_KIND);
-    let first = entry_at(sets, parts::first_part(words, r, kind), 0);
-    let second = entry_at(sets, parts::second_part(words, r, kind), 0);
-    let body = body_word(sets, above, parts::body_part(words, r, kind));
+    let parts = Parts::of(words, r, words.expr_kind(r));
+    let first = entry_at(sets, parts.first, 0);
+    let second = entry_at(sets, parts.second, 0);
+    let body = body_word(sets, above, parts.body);
     last_bit(loose, base) | (first | (second | body))
 }
 

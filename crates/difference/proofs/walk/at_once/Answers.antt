@@ -1,21 +1,27 @@
-use mathlib.Core.Path.{sym, ◌∙◌}
-use Rattle.difference.proofs.WalkLaws.{known_at_once, kinds_at_once, fields_at_once, parts_at_once}
+use Rattle.std.proofs.Common.{sym, ◌∙◌, rules}
+use Rattle.difference.proofs.WalkLaws.{known_at_once, kinds_at_once, one_kind, fields_at_once, parts_at_once}
 use Rattle.difference.proofs.walk.at_once.Goals as goal
 
 pub returns-then-is_plain : goal.returns-then-is_plain
 returns-then-is_plain c =
     known_at_once _ c.args.pool.now.sound _ _ _ _ _ c.requires c.if-known.true (sym c.is_plain.ensures ∙ c.if-is_plain.true)
 
-pub returns-then-kind-expr : goal.returns-then-kind-expr
-returns-then-kind-expr c =
-    kinds_at_once _ c.args.pool.now.sound _ _ _ _ _ c.requires _ _ c.expr-kind.ensures.0 c.expr.ensures.0 c.if-kind-expr.true
+pub returns-then-ne : goal.returns-then-ne
+returns-then-ne c =
+    kinds_at_once _ c.args.pool.now.sound _ _ _ _ _ c.requires c.expr_kind.ensures c.expr_kind-2.ensures (λ e. search rules)
+
+pub same_fields-requires : goal.same_fields-requires
+same_fields-requires c =
+    let kind = c.expr-kind.ensures.0 in
+    let one = one_kind _ c.args.pool.now.sound _ c.args.d c.args.c _ _ c.requires c.expr_kind.ensures c.expr_kind-2.ensures (search rules) in
+    record { a_row = c.requires.a_row; b_row = c.requires.b_row; a_kind = kind; b_kind = kind ∙ one }
 
 pub returns-then-not-same_fields : goal.returns-then-not-same_fields
 returns-then-not-same_fields c =
-    fields_at_once _ c.args.pool.now.sound _ _ _ _ _ c.requires _ _ c.expr-kind.ensures.0 c.expr.ensures.0 c.if-kind-expr.false _
+    fields_at_once _ c.args.pool.now.sound _ _ _ _ _ c.requires c.expr_kind.ensures c.expr_kind-2.ensures (search rules) c.expr-kind.ensures.0 _
     c.same_fields.ensures c.if-not-same_fields.true
 
 pub returns : goal.returns
 returns c =
-    parts_at_once _ c.args.pool.now.sound _ _ _ _ _ c.requires _ _ c.expr-kind.ensures.0 c.expr.ensures.0 c.if-kind-expr.false _
+    parts_at_once _ c.args.pool.now.sound _ _ _ _ _ c.requires c.expr_kind.ensures c.expr_kind-2.ensures (search rules) c.expr-kind.ensures.0 _
     c.same_fields.ensures c.if-not-same_fields.false

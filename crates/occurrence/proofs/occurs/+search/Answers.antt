@@ -1,58 +1,58 @@
-use Rattle.std.proofs.Common.{◌≡◌, true, false, sym, ◌∙◌, arith}
-use Rattle.occurrence.specs.Parts.{occurs_at}
-use Rattle.occurrence.proofs.PartLaws.{a_part}
-use Rattle.occurrence.proofs.SearchLaws.{low_at_once, last_at_once, first_row, second_row, body_row, in_first, in_second, in_body}
+use Rattle.std.proofs.Common.{◌≡◌, ◌<◌, true, false, sym, ◌∙◌, arith}
+use Rattle.pool.specs.Tables.{E}
+use Rattle.pool.specs.Views.{lent}
+use Rattle.occurrence.proofs.SearchLaws.{there_is, no_part, a_part, first_row, second_row, body_row, first_there, second_there, on_body}
 use Rattle.occurrence.proofs.occurs.+search.Goals as goal
-use Rattle.occurrence.proofs.occurs.+search.Goals.{search-then-look, search-else-look}
+use Rattle.occurrence.proofs.occurs.+search.Goals.{then-search, else-search}
 
-pub look-returns-then-part-ne0 : goal.look-returns-then-part-ne0
-look-returns-then-part-ne0 t c = c.search.ensures ∙ a_part _ _ _ c.if-part-ne0.true
+pub returns-in_default : goal.returns-in_default
+returns-in_default t c = no_part _ _ c.in_default.is
 
-pub look-returns-else-part-ne0 : goal.look-returns-else-part-ne0
-unfolding occurs_at
-look-returns-else-part-ne0 t c = rw c.if-part-ne0.false
+pub returns-in-Some-at_once : goal.returns-in-Some-at_once
+returns-in-Some-at_once t c = sym (a_part _ _ c.in-Some.is ∙ c.at_once.ensures.told _ c.in-Some-at_once.is)
 
-pub search-returns-then-loose-i : goal.search-returns-then-loose-i
-search-returns-then-loose-i t c =
-    low_at_once _ _ c.args.i c.args.pool.now.sound c.requires _ c.expr-loose.ensures.0 c.if-loose-i.true
+pub search-requires : goal.search-requires
+search-requires t c =
+    let part = there_is c.in-Some.is in
+    let row : c.in-Some.r < E c.args.pool.now.words.words.now = omega (arith, part) in
+    let low = first_row (lent c.args.pool.now) c.in-Some.r c.args.pool.now.sound row (c.of-parts.ensures.first _ c.expr_kind.ensures) in
+    (omega (arith, low, part), omega (arith, low, row))
 
-pub search-returns-then-loose-i-2 : goal.search-returns-then-loose-i-2
-search-returns-then-loose-i-2 t c =
-    last_at_once _ _ c.args.i c.args.pool.now.sound c.requires _ c.expr-loose.ensures.0 c.if-loose-i-2.true
+pub search-requires-else-search : goal.search-requires-else-search
+search-requires-else-search t c =
+    let part = there_is c.in-Some.is in
+    let row : c.in-Some.r < E c.args.pool.now.words.words.now = omega (arith, part) in
+    let low = second_row (lent c.args.pool.now) c.in-Some.r c.args.pool.now.sound row (c.of-parts.ensures.second _ c.expr_kind.ensures) in
+    (omega (arith, low, part), omega (arith, low, row))
 
-pub search-look-requires : goal.search-look-requires
-search-look-requires t c =
-    let low = first_row _ _ c.args.i c.args.pool.now.sound c.requires _ c.expr-loose.ensures.0 c.if-loose-i-2.false _ c.expr-kind.ensures.0 _
-    c.first_part-first.ensures in (omega (arith, low), omega (arith, low))
+pub search-requires-else-search-2 : goal.search-requires-else-search-2
+search-requires-else-search-2 t c =
+    let part = there_is c.in-Some.is in
+    let row : c.in-Some.r < E c.args.pool.now.words.words.now = omega (arith, part) in
+    let low = body_row (lent c.args.pool.now) c.in-Some.r c.args.pool.now.sound row (c.of-parts.ensures.body _ c.expr_kind.ensures) in
+    (omega (arith, low, part), omega (arith, low, row))
 
-pub search-look-requires-else-look : goal.search-look-requires-else-look
-search-look-requires-else-look t c =
-    let low = second_row _ _ c.args.i c.args.pool.now.sound c.requires _ c.expr-loose.ensures.0 c.if-loose-i-2.false _ c.expr-kind.ensures.0 _
-    c.second_part-second.ensures in (omega (arith, low), omega (arith, low))
+pub returns-then-search-2 : goal.returns-then-search-2
+returns-then-search-2 t c =
+    let left = c.at_once.ensures.left c.in_default-at_once.is in
+    let first = c.of-parts.ensures.first _ c.expr_kind.ensures in
+    let second = c.of-parts.ensures.second _ c.expr_kind.ensures in
+    c.if-search-2.true ∙ sym
+    (a_part _ _ c.in-Some.is ∙ elim c.if-search.branch [
+      | then-search w ↦ first_there _ _ _ left first (sym c.search.ensures) w.if-search.true
+      | else-search w ↦ second_there _ _ _ left second (sym w.search-else-search.ensures) (sym w.value-is ∙ c.if-search-2.true)
+    ])
 
-pub search-look-requires-else-look-2 : goal.search-look-requires-else-look-2
-search-look-requires-else-look-2 t c =
-    let low = body_row _ _ c.args.i c.args.pool.now.sound c.requires _ c.expr-loose.ensures.0 c.if-loose-i-2.false _ c.expr-kind.ensures.0 _
-    c.body_part-body.ensures in (omega (arith, low), omega (arith, low))
-
-pub search-returns-then-look-2 : goal.search-returns-then-look-2
-search-returns-then-look-2 t c =
-    elim c.if-look.branch [
-      | search-then-look w ↦ c.if-look-2.true
-          ∙ in_first _ _ c.args.i c.args.pool.now.sound c.requires _ c.expr-loose.ensures.0 c.if-loose-i-2.false _ c.expr-kind.ensures.0 _
-          c.first_part-first.ensures _ c.look.ensures w.if-look.true
-      | search-else-look w ↦ c.if-look-2.true
-          ∙ in_second _ _ c.args.i c.args.pool.now.sound c.requires _ c.expr-loose.ensures.0 c.if-loose-i-2.false _ c.expr-kind.ensures.0 _
-          c.first_part-first.ensures _ c.look.ensures w.if-look.false _ c.second_part-second.ensures _ w.look-else-look.ensures
-          (sym w.value-is ∙ c.if-look-2.true)
-    ]
-
-pub search-returns-else-look-2 : goal.search-returns-else-look-2
-search-returns-else-look-2 t c =
-    elim c.if-look.branch [
-      | search-then-look w ↦ absurd (let none : true ≡ false = sym w.if-look.true ∙ sym w.value-is ∙ c.if-look-2.false in cc)
-      | search-else-look w ↦
-          in_body _ _ c.args.i c.args.pool.now.sound c.requires _ c.expr-loose.ensures.0 c.if-loose-i-2.false _ c.expr-kind.ensures.0 _
-          c.first_part-first.ensures _ c.look.ensures w.if-look.false _ c.second_part-second.ensures _ w.look-else-look.ensures
-          (sym w.value-is ∙ c.if-look-2.false) _ c.body_part-body.ensures _ c.look-else-look-2.ensures
+pub returns-else-search-2 : goal.returns-else-search-2
+returns-else-search-2 t c =
+    let left = c.at_once.ensures.left c.in_default-at_once.is in
+    let first = c.of-parts.ensures.first _ c.expr_kind.ensures in
+    let second = c.of-parts.ensures.second _ c.expr_kind.ensures in
+    let body = c.of-parts.ensures.body _ c.expr_kind.ensures in
+    elim c.if-search.branch [
+      | then-search w ↦ absurd (let none : true ≡ false = sym w.if-search.true ∙ sym w.value-is ∙ c.if-search-2.false in cc)
+      | else-search w ↦
+          c.search-else-search-2.ensures ∙ sym
+          (a_part _ _ c.in-Some.is
+          ∙ on_body _ _ _ left second (sym w.search-else-search.ensures ∙ sym w.value-is ∙ c.if-search-2.false) first body (sym c.search.ensures ∙ w.if-search.false))
     ]

@@ -1,54 +1,98 @@
-use Rattle.std.proofs.Common.{arith}
-use Rattle.std.proofs.Common.{refl, sym, ◌∙◌}
-use Rattle.occurrence.proofs.PartLaws.{no_part, a_part}
-use Rattle.occurrence.proofs.SearchLaws.{told, low_at_once, last_at_once, first_row, second_row, body_row, in_first, in_second, in_body}
+use Rattle.std.proofs.Common.{◌≡◌, ◌<◌, refl, sym, ◌∙◌, rules, arith}
+use Rattle.std.specs.Prelude.{None}
+use Rattle.pool.specs.Tables.{E}
+use Rattle.pool.specs.Views.{lent}
+use Rattle.occurrence.specs.Parts.{part_of}
+use Rattle.occurrence.proofs.SearchLaws.{there_is, told, no_part, a_part, first_row, second_row, body_row, second_there, first_there, on_first, on_body}
 use Rattle.occurrence.proofs.occurs.+try_row.Goals as goal
 
-pub try_part-returns-then-part-eq0 : goal.try_part-returns-then-part-eq0
-try_part-returns-then-part-eq0 t c = told _ _ (no_part _ _ _ c.if-part-eq0.true)
+pub try_part-returns-in_default : goal.try_part-returns-in_default
+try_part-returns-in_default t c = told _ _ (no_part _ _ c.in_default.is)
+
+pub try_part-returns-then-is_some : goal.try_part-returns-then-is_some
+try_part-returns-then-is_some t c = λ b q. a_part _ _ c.in-Some.is ∙ c.at_once-told.ensures.told b q
 
 pub try_part-returns : goal.try_part-returns
-try_part-returns t c = λ b q. sym (a_part _ _ _ c.if-part-eq0.false) ∙ c.try_row.ensures b q
+try_part-returns t c = λ b q. a_part _ _ c.in-Some.is ∙ c.try_row.ensures b q
 
-pub try_row-returns-then-loose-i : goal.try_row-returns-then-loose-i
-try_row-returns-then-loose-i t c =
-    told _ _ (low_at_once _ _ c.args.i c.args.pool.now.sound c.requires _ c.expr-loose.ensures.0 c.if-loose-i.true)
+pub try_row-loop-part-init : goal.try_row-loop-part-init
+try_row-loop-part-init t c = record { same = sym (a_part _ _ refl); lower = omega arith }
 
-pub try_row-returns-then-loose-i-2 : goal.try_row-returns-then-loose-i-2
-try_row-returns-then-loose-i-2 t c =
-    told _ _ (last_at_once _ _ c.args.i c.args.pool.now.sound c.requires _ c.expr-loose.ensures.0 c.if-loose-i-2.true)
+pub try_row-returns-then-is_some : goal.try_row-returns-then-is_some
+try_row-returns-then-is_some t c = λ b q. c.loop-part.invariant.same ∙ a_part _ _ c.in-Some.is ∙ c.at_once-told.ensures.told b q
 
 pub try_row-try_part-requires : goal.try_row-try_part-requires
 try_row-try_part-requires t c =
-    let low = first_row _ _ c.args.i c.args.pool.now.sound c.requires _ c.expr-loose.ensures.0 c.if-loose-i-2.false _ c.expr-kind.ensures.0 _
-    c.first_part-first.ensures in (omega (arith, low), omega (arith, low))
+    let part = there_is c.in-Some.is in
+    let row : c.in-Some.row < E c.args.pool.now.words.words.now = omega (arith, part, c.loop-part.invariant.lower, c.requires) in
+    let low = second_row (lent c.args.pool.now) c.in-Some.row c.args.pool.now.sound row (c.of-parts.ensures.second _ c.expr_kind.ensures) in
+    (omega (arith, low, part, c.loop-part.invariant.lower), omega (arith, low, row))
 
 pub try_row-returns-then-branch : goal.try_row-returns-then-branch
 try_row-returns-then-branch t c =
+    let left : c.at_once-told.result ≡ None = search rules in
     told _ _
-    (in_first _ _ c.args.i c.args.pool.now.sound c.requires _ c.expr-loose.ensures.0 c.if-loose-i-2.false _ c.expr-kind.ensures.0 _
-    c.first_part-first.ensures _ (sym (c.in_ok-try_part.ensures _ refl)) c.if-branch.true)
+    (sym
+    (c.loop-part.invariant.same ∙ a_part _ _ c.in-Some.is
+    ∙ second_there _ _ _ (c.at_once-told.ensures.left left) (c.of-parts.ensures.second _ c.expr_kind.ensures) (c.in_ok-try_part.ensures _ refl) c.if-branch.true))
 
-pub try_row-try_part-requires-2 : goal.try_row-try_part-requires-2
-try_row-try_part-requires-2 t c =
-    let low = second_row _ _ c.args.i c.args.pool.now.sound c.requires _ c.expr-loose.ensures.0 c.if-loose-i-2.false _ c.expr-kind.ensures.0 _
-    c.second_part-second.ensures in (omega (arith, low), omega (arith, low))
+pub try_row-loop-part-smaller-then-is_none : goal.try_row-loop-part-smaller-then-is_none
+try_row-loop-part-smaller-then-is_none t c =
+    let part = there_is c.in-Some.is in
+    let row : c.in-Some.row < E c.args.pool.now.words.words.now = omega (arith, part, c.loop-part.invariant.lower, c.requires) in
+    let low = first_row (lent c.args.pool.now) c.in-Some.row c.args.pool.now.sound row (c.of-parts.ensures.first _ c.expr_kind.ensures) in
+    omega (arith, low, part)
+
+pub try_row-loop-part-preserved-then-is_none : goal.try_row-loop-part-preserved-then-is_none
+try_row-loop-part-preserved-then-is_none t c =
+    let part = there_is c.in-Some.is in
+    let row : c.in-Some.row < E c.args.pool.now.words.words.now = omega (arith, part, c.loop-part.invariant.lower, c.requires) in
+    let first = c.of-parts.ensures.first _ c.expr_kind.ensures in
+    let low = first_row (lent c.args.pool.now) c.in-Some.row c.args.pool.now.sound row first in
+    let left : c.at_once-told.result ≡ None = search rules in
+    let none : part_of c.of-parts.result.body ≡ 0 = search rules in
+    record {
+      same = c.loop-part.invariant.same ∙ a_part _ _ c.in-Some.is
+          ∙ on_first _ _ _ (c.at_once-told.ensures.left left) (c.of-parts.ensures.second _ c.expr_kind.ensures) (c.in_ok-try_part.ensures _ refl ∙ c.if-branch.false)
+          first (c.of-parts.ensures.body _ c.expr_kind.ensures) none;
+      lower = omega (arith, low, part, c.loop-part.invariant.lower);
+    }
+
+pub try_row-try_part-requires-in-Some : goal.try_row-try_part-requires-in-Some
+try_row-try_part-requires-in-Some t c =
+    let part = there_is c.in-Some.is in
+    let row : c.in-Some.row < E c.args.pool.now.words.words.now = omega (arith, part, c.loop-part.invariant.lower, c.requires) in
+    let low = first_row (lent c.args.pool.now) c.in-Some.row c.args.pool.now.sound row (c.of-parts.ensures.first _ c.expr_kind.ensures) in
+    (omega (arith, low, part, c.loop-part.invariant.lower), omega (arith, low, row))
 
 pub try_row-returns-then-branch-2 : goal.try_row-returns-then-branch-2
 try_row-returns-then-branch-2 t c =
+    let left : c.at_once-told.result ≡ None = search rules in
     told _ _
-    (in_second _ _ c.args.i c.args.pool.now.sound c.requires _ c.expr-loose.ensures.0 c.if-loose-i-2.false _ c.expr-kind.ensures.0 _
-    c.first_part-first.ensures _ (sym (c.in_ok-try_part.ensures _ refl)) c.if-branch.false _ c.second_part-second.ensures _
-    (sym (c.in_ok-try_part-2.ensures _ refl)) c.if-branch-2.true)
+    (sym
+    (c.loop-part.invariant.same ∙ a_part _ _ c.in-Some.is
+    ∙ first_there _ _ _ (c.at_once-told.ensures.left left) (c.of-parts.ensures.first _ c.expr_kind.ensures) (c.in_ok-try_part-2.ensures _ refl) c.if-branch-2.true))
 
-pub try_row-try_part-requires-3 : goal.try_row-try_part-requires-3
-try_row-try_part-requires-3 t c =
-    let low = body_row _ _ c.args.i c.args.pool.now.sound c.requires _ c.expr-loose.ensures.0 c.if-loose-i-2.false _ c.expr-kind.ensures.0 _
-    c.body_part-body.ensures in (omega (arith, low), omega (arith, low))
+pub try_row-loop-part-smaller : goal.try_row-loop-part-smaller
+try_row-loop-part-smaller t c =
+    let part = there_is c.in-Some.is in
+    let row : c.in-Some.row < E c.args.pool.now.words.words.now = omega (arith, part, c.loop-part.invariant.lower, c.requires) in
+    let low = body_row (lent c.args.pool.now) c.in-Some.row c.args.pool.now.sound row (c.of-parts.ensures.body _ c.expr_kind.ensures) in
+    omega (arith, low, part)
+
+pub try_row-loop-part-preserved : goal.try_row-loop-part-preserved
+try_row-loop-part-preserved t c =
+    let part = there_is c.in-Some.is in
+    let row : c.in-Some.row < E c.args.pool.now.words.words.now = omega (arith, part, c.loop-part.invariant.lower, c.requires) in
+    let body = c.of-parts.ensures.body _ c.expr_kind.ensures in
+    let low = body_row (lent c.args.pool.now) c.in-Some.row c.args.pool.now.sound row body in
+    let left : c.at_once-told.result ≡ None = search rules in
+    record {
+      same = c.loop-part.invariant.same ∙ a_part _ _ c.in-Some.is
+          ∙ on_body _ _ _ (c.at_once-told.ensures.left left) (c.of-parts.ensures.second _ c.expr_kind.ensures) (c.in_ok-try_part.ensures _ refl ∙ c.if-branch.false)
+          (c.of-parts.ensures.first _ c.expr_kind.ensures) body (c.in_ok-try_part-2.ensures _ refl ∙ c.if-branch-2.false);
+      lower = omega (arith, low, part, c.loop-part.invariant.lower);
+    }
 
 pub try_row-returns : goal.try_row-returns
-try_row-returns t c =
-    λ b q. sym
-    (in_body _ _ c.args.i c.args.pool.now.sound c.requires _ c.expr-loose.ensures.0 c.if-loose-i-2.false _ c.expr-kind.ensures.0 _
-    c.first_part-first.ensures _ (sym (c.in_ok-try_part.ensures _ refl)) c.if-branch.false _ c.second_part-second.ensures _
-    (sym (c.in_ok-try_part-2.ensures _ refl)) c.if-branch-2.false _ c.body_part-body.ensures b (sym (c.try_part-3.ensures b q)))
+try_row-returns t c = told _ _ (no_part _ _ c.in_default.is ∙ sym c.loop-part.invariant.same)

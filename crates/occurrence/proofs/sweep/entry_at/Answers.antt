@@ -1,13 +1,11 @@
 use Rattle.occurrence.proofs.StepLaws.{entry_none, entry_past, entry_there}
 use Rattle.occurrence.proofs.sweep.entry_at.Goals as goal
-use Rattle.occurrence.proofs.sweep.entry_at.Goals.{then-part-eq0-via-then-part-eq0, then-part-eq0-via-else-part-eq0+then-table-part}
 
-pub returns-then-part-eq0 : goal.returns-then-part-eq0
-returns-then-part-eq0 g c =
-    elim c.then-part-eq0.branch [
-      | then-part-eq0-via-then-part-eq0 w ↦ entry_none _ _ _ w.if-part-eq0.true
-      | then-part-eq0-via-else-part-eq0+then-table-part w ↦ entry_past _ _ _ w.if-table-part.true
-    ]
+pub returns-in_default : goal.returns-in_default
+returns-in_default g c = entry_none _ _ c.in_default.is
+
+pub returns-then-table-r : goal.returns-then-table-r
+returns-then-table-r g c = entry_past _ _ c.in-Some.is c.if-table-r.true
 
 pub returns : goal.returns
-returns g c = entry_there _ _ _ _ c.if-part-eq0.false c.if-table-part.false c.index-table-part.is
+returns g c = entry_there _ _ c.in-Some.is c.if-table-r.false c.index-table-r.is
