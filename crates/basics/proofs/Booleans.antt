@@ -55,16 +55,6 @@ first_false a b h = ap (λ (x : Bool). x && b) (sym h)
 pub first_true : (a b v : Bool) → a ≡ true → v ≡ b → v ≡ a && b
 first_true a b v h e = e ∙ ap (λ (x : Bool). x && b) (sym h)
 
-pub or_first : (a b : Bool) → a ≡ true → true ≡ a || b
-or_first a b e = ap (λ (x : Bool). x || b) (sym e)
-
-pub or_second : (a b : Bool) → b ≡ true → true ≡ a || b
-or_second true b e = refl
-or_second false b e = sym e
-
-pub or_none : (a b : Bool) → a ≡ false → b ≡ false → false ≡ a || b
-or_none a b e f = sym (ap (λ (x : Bool). x || b) e ∙ f)
-
 pub not_so : (b : Bool) → (b ≡ true → ⊥) → b ≡ false
 not_so true h = absurd (h refl)
 not_so false h = refl

@@ -10,16 +10,14 @@ use crate::printer::Printer;
 use crate::stack::Stack;
 use pool::fields::{BINDER_BODY, BINDER_NAME};
 use pool::kinds::ExprKind;
+use pool::words::Words;
 
 // Whether row r is a pi or a lambda.
 #[tactic(auto, unfolding(crate::specs::Steps::binder_kind))]
-pub fn is_binder(p: &Printer<'_>, r: usize) -> bool
-    ensures { result ≡ binder_kind (expr_word (pool_of p.now).words r 0) }
+pub fn is_binder(words: &Words<'_>, r: usize) -> bool
+    ensures { result ≡ binder_kind (expr_word words.now.words.now r 0) }
 {
-    matches!(
-        p.pool.words.expr_kind(r),
-        Some(ExprKind::Pi | ExprKind::Lambda)
-    )
+    matches!(words.expr_kind(r), Some(ExprKind::Pi | ExprKind::Lambda))
 }
 
 // How many binders the chain at row r has.
@@ -30,7 +28,7 @@ pub fn chain_length(p: &Printer<'_>, r: usize) -> usize
 {
     let mut at = r;
     let mut n = 0;
-    while is_binder(p, at) {
+    while is_binder(&p.pool.words, at) {
         n += 1;
         at = p.pool.words.expr(at, BINDER_BODY);
     }
@@ -46,7 +44,7 @@ pub fn push_chain(p: &Printer<'_>, k: &mut Stack, h: usize, r: usize)
 {
     let mut at = r;
     let mut scope = h;
-    while is_binder(p, at) {
+    while is_binder(&p.pool.words, at) {
         k.push(p.pool.words.expr(at, BINDER_NAME), scope);
         scope = k.count;
         at = p.pool.words.expr(at, BINDER_BODY);

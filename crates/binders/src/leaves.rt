@@ -13,6 +13,18 @@ use levels::levels::pp_sort;
 use names::literals::{pp_const, pp_nat, pp_string};
 use pool::fields::{CONST_NAME, LITERAL_STRING, SORT_LEVEL};
 use pool::kinds::ExprKind;
+use pool::words::Words;
+
+// Whether row r has no parts, and is no variable.
+#[tactic(auto, unfolding(crate::specs::Leaves::leaf_kind))]
+pub fn is_leaf(words: &Words<'_>, r: usize) -> bool
+    ensures { result ≡ leaf_kind (expr_word words.now.words.now r 0) }
+{
+    matches!(
+        words.expr_kind(r),
+        Some(ExprKind::Sort | ExprKind::Const | ExprKind::Nat | ExprKind::String)
+    )
+}
 
 #[tactic(auto, using(crate::proofs::LeafLaws::leaf_rows), unfolding(crate::specs::Leaves::leaf_kind))]
 pub fn pp_leaf(p: &Printer<'_>, sink: &mut Sink<'_>, r: usize)

@@ -18,6 +18,7 @@ use occurrence::occurs::has_var;
 use pieces::words::put_word;
 use pool::fields::{BINDER_BODY, BINDER_NAME};
 use pool::kinds::{BinderStyle, ExprKind};
+use pool::words::Words;
 
 // Whether the variable of the binder at row r occurs in its body.
 #[tactic(auto, using(crate::proofs::BinderLaws::binder_rows))]
@@ -30,10 +31,10 @@ pub fn is_used(p: &Printer<'_>, r: usize) -> bool
 }
 
 // Whether row r is a pi.
-pub fn is_pi(p: &Printer<'_>, r: usize) -> bool
-    ensures { result ≡ eqb (expr_word (pool_of p.now).words r 0) 4 }
+pub fn is_pi(words: &Words<'_>, r: usize) -> bool
+    ensures { result ≡ eqb (expr_word words.now.words.now r 0) 4 }
 {
-    p.pool.words.expr_kind(r) == Some(ExprKind::Pi)
+    words.expr_kind(r) == Some(ExprKind::Pi)
 }
 
 // The binder at row r: pi, default style, and body without its variable, or anonymous, or hygienic.
@@ -44,7 +45,7 @@ pub fn is_arrow(p: &Printer<'_>, r: usize) -> bool
     ensures { result ≡ is_arrow (first_binder (expr_at (pool_of p.now) r)) }
 {
     let name = p.pool.words.expr(r, BINDER_NAME);
-    is_pi(p, r)
+    is_pi(&p.pool.words, r)
         && p.pool.words.binder_style(r) == Some(BinderStyle::Default)
         && (is_anonymous(&p.pool, name) || has_macro_scopes(&p.pool, name) || !is_used(p, r))
 }
@@ -57,7 +58,7 @@ pub fn in_run(p: &Printer<'_>, r: usize, pis: bool) -> bool
         (first_binder (expr_at (pool_of p.now) r))) }
 {
     if pis {
-        is_pi(p, r) && !is_arrow(p, r)
+        is_pi(&p.pool.words, r) && !is_arrow(p, r)
     } else {
         p.pool.words.expr_kind(r) == Some(ExprKind::Lambda)
     }
@@ -99,7 +100,7 @@ pub fn part_end(p: &Printer<'_>, r: usize, arrow: bool) -> Reached
             count: 1,
         }
     } else {
-        run_end(p, r, is_pi(p, r))
+        run_end(p, r, is_pi(&p.pool.words, r))
     }
 }
 

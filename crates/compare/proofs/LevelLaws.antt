@@ -149,15 +149,7 @@ module _ (p : Pool) (sound : Sound p) (a b : ℕ) (ha : a < L p.words) (hb : b <
 -- ---- the comparison
 
 module _ (p : Pool) (known : List ℕ) (a b : ℕ) (s : TwoLevels p known a b) where
-  pub level_known : (v : Bool) → Quick (levels_same p a b) (Branches p a b) (Some v) → Compared (EqualLevels p) (levels_same p a b) known v
-  level_known v quick = record { answer = sym (quick.told v refl); holds = s.holds }
-
   module _ (open_now : Branches p a b) where
-    pub level_held : (slot : ℕ) (key : Option ℕ) (v : Bool) → key ≡ packed a b 0 → v ≡ is_held known slot key → v ≡ true
-        → Compared (EqualLevels p) (levels_same p a b) known true
-    level_held slot key v ek ev y =
-        record { answer = sym (holds_hit (EqualLevels p) known slot key a b 0 s.holds ek (sym ev ∙ y)); holds = s.holds }
-
     module _ (x y : ℕ) (ex : x ≡ level_word p.words a 1) (ey : y ≡ level_word p.words b 1) where
       pub ask_one : (x < a) × TwoLevels p known x y
       ask_one =
@@ -252,10 +244,6 @@ told_pass p a b before after v c l s = by
     by : (x : Bool) → v ≡ Some x → levels_same p a b ≡ x
     by false e = not_so _ (λ q. s.refuted e (l.up (level_shape_at p) (clear_owes _ _ before c) (shape_equal _ _ q)))
     by true e = is_equal_lem p a b (l.tied (level_shape_at p) (s.holds e))
-
--- what is told is the answer
-pub told_is : (asked v : Bool) → Told asked (Some v) → v ≡ asked
-told_is asked v t = sym (t v refl)
 
 -- ---- lists
 

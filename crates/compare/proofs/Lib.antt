@@ -3,4 +3,3 @@ pub mod LevelLaws
 pub mod ListLaws
 pub mod NameLaws
 pub mod SeenLaws
-pub mod Standing

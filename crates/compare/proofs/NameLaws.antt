@@ -19,13 +19,6 @@ use Rattle.compare.specs.Equal.{string_of, number_of, TwoNames, ends_same}
 
 -- ---- strings
 
-pub same_pointwise : (x y : List ℕ) → pointwise eqb x y ≡ same_bytes x y
-unfolding same_bytes
-same_pointwise [] [] = refl
-same_pointwise [] (b ∷ y) = refl
-same_pointwise (a ∷ x) [] = refl
-same_pointwise (a ∷ x) (b ∷ y) = ap (λ (v : Bool). eqb a b && v) (same_pointwise x y)
-
 pub strings_same : (bs ns : List ℕ) (a b : ℕ) → a ≡ b → true ≡ same_bytes (string_of bs ns a) (string_of bs ns b)
 strings_same bs ns a b e =
     sym (ap (λ (k : ℕ). same_bytes (string_of bs ns k) (string_of bs ns b)) e ∙ bytes_same (string_of bs ns b))

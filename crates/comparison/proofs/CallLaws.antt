@@ -19,11 +19,6 @@ use Rattle.comparison.specs.declared.error.CompareError.TheVariants.{Root}
 use Rattle.comparison.specs.declared.error.CompareError.TheVariants as errors
 use Rattle.comparison.specs.Call.{Answer, answer_of, decided, comparison}
 
--- what `?` hands on
-pub err_is : {A E : Type 0} (r : Result A E) (e : E) → IsErrAnd r (λ d. d ≡ e) → r ≡ Err e
-err_is (Ok a) e h = absurd h
-err_is (Err d) e h = ap (λ (x : _). Err x) h
-
 -- a row that is not there
 pub first_missing : (first second n : ℕ) → n ≤ first → ltb first n && ltb second n ≡ false
 first_missing first second n h = rw (le-ltb first n h)

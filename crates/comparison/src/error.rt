@@ -3,6 +3,8 @@ ghost use Rattle.std.specs.Prelude.{◌≡◌};
 ghost use Rattle.comparison.specs.declared.error.CompareError.TheVariants.{Pool};
 
 use pool_check::PoolError;
+use std::error::Error;
+use std::fmt;
 
 #[derive(Clone, Copy, Debug, PartialEq, Eq)]
 pub enum CompareError {
@@ -19,3 +21,14 @@ impl From<PoolError> for CompareError {
         CompareError::Pool { error }
     }
 }
+
+impl fmt::Display for CompareError {
+    fn fmt<W: fmt::Write>(&self, f: &mut fmt::Formatter<W>) -> fmt::Result {
+        match self {
+            CompareError::Pool { error } => write!(f, "{error}"),
+            CompareError::Root => f.write_str("the pool has no such row"),
+        }
+    }
+}
+
+impl Error for CompareError {}

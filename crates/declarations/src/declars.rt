@@ -33,7 +33,7 @@ fn can_leave(p: &Printer<'_>, r: usize) -> bool
     ensures { result ≡ (is_binder (expr_at (pool_of p.now) r) && can_leave
         (first_binder (expr_at (pool_of p.now) r))) }
 {
-    is_pi(p, r)
+    is_pi(&p.pool.words, r)
         && p.pool.words.binder_style(r) == Some(BinderStyle::Default)
         && !is_anonymous(&p.pool, p.pool.words.expr(r, BINDER_NAME))
 }

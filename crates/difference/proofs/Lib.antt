@@ -1,4 +1,3 @@
-pub mod KindLaws
 pub mod ClassLaws
 pub mod OrderLaws
 pub mod WalkLaws

@@ -12,8 +12,6 @@ use Rattle.pool.specs.Sound.{Sound}
 use Rattle.pool.proofs.ExprUnfolds.{kind_small}
 use Rattle.occurrence.specs.Parts.{part_of, first_part, second_part, body_part}
 use Rattle.occurrence.proofs.PartLaws.{first_lower, second_lower, body_lower}
-use Rattle.pool.specs.Codes.{Stands, expr_code}
-use Rattle.pool.specs.declared.kinds.ExprKind.{ExprKind}
 use Rattle.compare.specs.Equal.{fields_same}
 use Rattle.links.specs.Links.{Owes}
 use Rattle.equality.specs.Sweep.{tree_at}
@@ -21,7 +19,6 @@ use Rattle.difference.specs.declared.walk.Found.{Found}
 use Rattle.difference.specs.declared.walk.Found.TheVariants.{Equal, Unknown}
 use Rattle.difference.specs.Order.{Comparison, equal, differ, ◌and_then◌, first_to}
 use Rattle.difference.specs.Walks.{is_plain, Classed, KeepsIf, TwoRows, first_at, parts_at, AtOnce, Tells, TwoParts, pair_unless, Walked}
-use Rattle.difference.proofs.KindLaws.{one_word, one_code}
 use Rattle.difference.proofs.OrderLaws.{kinds_differ, fields_differ, by_parts, known_equal, equal_known}
 
 -- ---- two rows by themselves
@@ -40,23 +37,15 @@ module _ (pool : Pool) (sound : Sound pool) (known : Bool) (d c a b : ℕ) (s : 
   pub known_at_once : known ≡ true → is_plain pool.words d c a ≡ true → AtOnce pool d c a b (Some true)
   known_at_once k plain = equal_at_once (known_equal pool sound d c a b s.a_row s.b_row plain (s.known_so k))
 
-  module _ {x y : Option ExprKind} (ex : Stands expr_code 9 (expr_word pool.words a 0) x) (ey : Stands expr_code 9 (expr_word pool.words b 0) y) where
-    pub kinds_at_once : (x ≡ y → ⊥) → AtOnce pool d c a b (Some false)
-    kinds_at_once q = differ_at_once (λ n. kinds_differ n pool d c a b small (λ z. q (one_word ex ey z)))
+  pub kinds_at_once : (expr_word pool.words a 0 ≡ expr_word pool.words b 0 → ⊥) → AtOnce pool d c a b (Some false)
+  kinds_at_once q = differ_at_once (λ n. kinds_differ n pool d c a b small q)
 
-    pub one_kind : x ≡ y → expr_word pool.words a 0 ≡ expr_word pool.words b 0
-    one_kind q = one_code small ex ey q
+  module _ (one : expr_word pool.words a 0 ≡ expr_word pool.words b 0) (v : Bool) (ev : v ≡ fields_same pool d c a b (expr_word pool.words a 0)) where
+    pub fields_at_once : v ≡ false → AtOnce pool d c a b (Some false)
+    fields_at_once e = differ_at_once (λ n. fields_differ n pool d c a b small one (sym ev ∙ e))
 
-    module _ (q : x ≡ y) {k : ℕ} (ek : k ≡ expr_word pool.words a 0) (v : Bool) (ev : v ≡ fields_same pool d c a b k) where
-      fields_are : fields_same pool d c a b (expr_word pool.words a 0) ≡ v
-      fields_are = sym (ev ∙ ap (fields_same pool d c a b) ek)
-
-      pub fields_at_once : v ≡ false → AtOnce pool d c a b (Some false)
-      fields_at_once e = differ_at_once (λ n. fields_differ n pool d c a b small (one_kind q) (fields_are ∙ e))
-
-      pub parts_at_once : v ≡ true → AtOnce pool d c a b None
-      parts_at_once e =
-          record { no = λ z. cc; yes = λ z. cc; one = λ z. one_kind q; left = λ z n. by_parts n pool d c a b small (one_kind q) (fields_are ∙ e) }
+    pub parts_at_once : v ≡ true → AtOnce pool d c a b None
+    parts_at_once e = record { no = λ z. cc; yes = λ z. cc; one = λ z. one; left = λ z n. by_parts n pool d c a b small one (sym ev ∙ e) }
 
 -- ---- parts that are not there
 

@@ -9,7 +9,7 @@ use super::classes::{same_class, unite};
 use compare::trees::same_fields;
 use occurrence::parts::Parts;
 use pool::checked::CheckedPool;
-use pool::fields::{EXPR_KIND, EXPR_LOOSE};
+use pool::fields::EXPR_LOOSE;
 use pool::words::Words;
 
 // What a comparison has found: the first pair of rows that differ; that all is equal; or no pair, where no step was left or none was looked
@@ -43,10 +43,10 @@ fn at_once(
     if known && is_plain(&pool.words, d, a, c) {
         return Some(true);
     }
-    if pool.words.expr_kind(a) != pool.words.expr_kind(b) {
+    let kind = pool.words.expr_kind(a);
+    if kind != pool.words.expr_kind(b) {
         return Some(false);
     }
-    let kind = pool.words.expr(a, EXPR_KIND);
     if !same_fields(pool, d, a, b, c, kind) {
         return Some(false);
     }

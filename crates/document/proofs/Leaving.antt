@@ -19,8 +19,3 @@ leaves_after {s} {t} {u} {f} {g} h k =
       same_text = k.same_text ∙ h.same_text;
       is = k.is ∙ ap g h.is;
     }
-
--- a text: its bytes, then its row
-pub leaves_text : {s t u : Sink} (bs : List ℕ) → Leaves s t (put_bytes bs) → Leaves t u (end_text s.written.text) → Leaves s u (put_text bs)
-unfolding put_text
-leaves_text {s} bs h k = leaves_as (leaves_after h k) refl

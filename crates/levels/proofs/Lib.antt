@@ -1,2 +1,1 @@
-pub mod LevelKinds
 pub mod Universes

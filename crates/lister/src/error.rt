@@ -4,6 +4,8 @@ ghost use Rattle.lister.specs.Answers.{of_pool, of_stop};
 
 use document::written::Stop;
 use pool_check::PoolError;
+use std::error::Error;
+use std::fmt;
 
 #[derive(Clone, Copy, Debug, PartialEq, Eq)]
 pub enum PrintError {
@@ -45,3 +47,22 @@ impl From<Stop> for PrintError {
         }
     }
 }
+
+impl fmt::Display for PrintError {
+    fn fmt<W: fmt::Write>(&self, f: &mut fmt::Formatter<W>) -> fmt::Result {
+        match self {
+            PrintError::Pool { error } => write!(f, "{error}"),
+            PrintError::Root => f.write_str("the pool has no such root"),
+            PrintError::Size => f.write_str("the indent is over 64 or the width over 65,535"),
+            PrintError::Names { row } => write!(f, "row {row} brings the stack over 1,024 names"),
+            PrintError::Document { rows } => {
+                write!(f, "past the limits of a document after {rows} rows")
+            }
+            PrintError::RowArea { rows } => write!(f, "the row area is full after {rows} rows"),
+            PrintError::TextArea { rows } => write!(f, "the text area is full after {rows} rows"),
+            PrintError::Listing => f.write_str("the listing is longer than its area"),
+        }
+    }
+}
+
+impl Error for PrintError {}

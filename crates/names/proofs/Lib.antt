@@ -1,4 +1,2 @@
-pub mod NameKinds
 pub mod Rows
-pub mod Standing
 pub mod Texts

@@ -39,25 +39,6 @@ a_last loose base h g =
     let f : loose - base - 1 < 64 = omega arith in
     shl_exact 1 (loose - base - 1) 64 (omega arith) (omega arith) ∙ one-mul (2 ^ (loose - base - 1)) ∙ rw (le-ltb (base + 64) loose (omega arith))
 
--- a row's word, from those of its parts
-module _ (ws sets above : List ℕ) (base r l : ℕ) (el : l ≡ expr_word ws r 7) where
-  pub word_none : l ≤ base → 0 ≡ row_word ws sets above base r
-  unfolding row_word
-  word_none h = rw (le-leb _ _ (subst (λ (x : ℕ). x ≤ base) el h))
-
-  pub word_is : base < l → (kind first second body : ℕ) → kind ≡ expr_word ws r 0 → first ≡ first_part ws r kind → second ≡ second_part ws r kind
-      → body ≡ body_part ws r kind → (a b c d u v w : ℕ) → a ≡ part_word sets first → b ≡ part_word sets second → c ≡ body_word sets above body
-      → d ≡ last_bit l base → u ≡ bit_or b c → v ≡ bit_or a u → w ≡ bit_or d v → w ≡ row_word ws sets above base r
-  unfolding row_word
-  word_is h kind first second body ek e₁ e₂ e₃ a b c d u v w ea eb ec ed eu ev ew =
-      rw (ew, ev, eu, ed, ec, eb, ea, e₃, e₂, e₁, ek, el, lt-leb (expr_word ws r 7) base (subst (λ (x : ℕ). base < x) el h))
-
--- a row's step
-pub step_is : (ws sets above : List ℕ) (base r low word : ℕ) → low ≡ get_or sets r 0 % 2 → word ≡ row_word ws sets (set above r low) base r
-    → kept (set sets r word) (set above r low) ≡ row_step ws base r (kept sets above)
-unfolding row_step
-step_is ws sets above base r low word e q = rw (q, e)
-
 -- a loop of steps: what is left of it
 module _ (ws : List ℕ) (base n : ℕ) where
   pub steps-start : (k : Kept) → sweep_rows ws base (n - 0) 0 k ≡ sweep_rows ws base n 0 k

@@ -3,3 +3,4 @@ pub mod Unfolds
 pub mod TreeLaws
 pub mod ExprUnfolds
 pub mod RowUnfolds
+pub mod Standing

@@ -53,6 +53,6 @@ module _ (bs ws : List ℕ) (p : Pool) (e : p ≡ pool bs ws) (w : Bool) (ew : w
     verdict_rows z = rw (head_read true y, limits_read true z) (ap rows_verdict e)
 
 -- what `?` hands on
-pub err_is : {A : Type 0} (r : Result A PoolError) (e : PoolError) → IsErrAnd r (λ d. d ≡ e) → r ≡ Err e
+pub err_is : {A E : Type 0} (r : Result A E) (e : E) → IsErrAnd r (λ d. d ≡ e) → r ≡ Err e
 err_is (Ok u) e h = absurd h
-err_is (Err d) e h = ap Err h
+err_is (Err d) e h = ap (λ (x : _). Err x) h

@@ -14,7 +14,7 @@ ghost use Rattle.pretty_printer.specs.Parts.{row_in, chain_part, run_part, group
 
 use binders::chain::{chain_length, is_binder, push_chain};
 use binders::group::{group_end, pp_names};
-use binders::leaves::pp_leaf;
+use binders::leaves::{is_leaf, pp_leaf};
 use binders::printer::Printer;
 use binders::runs::{is_arrow, is_pi, level_of, part_end};
 use binders::spine::spine_of;
@@ -56,6 +56,26 @@ pub fn pp_expr(p: &Printer<'_>, sink: &mut Sink<'_>, k: Stack, scope: usize, r: 
     }
 }
 
+// An expression in an application: what has no parts needs no stack, and no copy of it. Inlined, so that the stack is not copied here.
+#[inline(always)]
+#[cycle(exprs)]
+fn pp_inside(
+    p: &Printer<'_>,
+    sink: &mut Sink<'_>,
+    k: &Stack,
+    scope: usize,
+    r: usize,
+    outer: usize,
+)
+    requires { (Asked (pool_of p.now) k.now scope r) × (outer ≤ 1024) }
+    ensures { Leaves sink.old sink.new (emit (under outer (row_in (options_of p.now) (pool_of p.now) k.now scope r))) }
+{
+    if is_leaf(&p.pool.words, r) {
+        return pp_leaf(p, sink, r);
+    }
+    pp_expr(p, sink, *k, scope, r, outer)
+}
+
 // An application: its head and its arguments, tiled.
 #[cycle(exprs)]
 fn pp_app(p: &Printer<'_>, sink: &mut Sink<'_>, k: Stack, scope: usize, r: usize, outer: usize)
@@ -66,11 +86,11 @@ fn pp_app(p: &Printer<'_>, sink: &mut Sink<'_>, k: Stack, scope: usize, r: usize
     let wrapped = outer > 1023;
     open_paren(sink, wrapped);
     let spine = spine_of(p, r);
-    pp_expr(p, sink, k, scope, spine.head, 1023);
+    pp_inside(p, sink, &k, scope, spine.head, 1023);
     sink.put_group();
     for i in (0..spine.count).rev() {
         sink.put_break(1);
-        pp_expr(p, sink, k, scope, spine.arguments[i] as usize, 1024);
+        pp_inside(p, sink, &k, scope, spine.arguments[i] as usize, 1024);
         end_argument(sink);
     }
     end_app(sink, p.indent, wrapped)
@@ -174,7 +194,7 @@ pub fn pp_tail(
     ensures { Leaves sink.old sink.new (emit (under outer (chain_part (options_of p.now) (pool_of p.now) k scope m
         (expr_at (pool_of p.now) r)))) }
 {
-    if is_binder(p, r) {
+    if is_binder(&p.pool.words, r) {
         return pp_binders(p, sink, k, scope, m, r, outer);
     }
     pp_expr(p, sink, k, scope, r, outer)
@@ -236,7 +256,7 @@ fn pp_part(
         pp_expr(p, sink, *k, scope, x, 25);
         return put_arrow(sink, p.indent);
     }
-    let pis = is_pi(p, r);
+    let pis = is_pi(&p.pool.words, r);
     start_run(sink, pis);
     telescope(p, sink, *k, scope, m, r, n, true);
     end_run(sink, p.indent, pis)

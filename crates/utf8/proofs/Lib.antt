@@ -1,4 +1,3 @@
 pub mod Laws
-pub mod Table
 pub mod Classes
 pub mod Standard

@@ -1,7 +1,8 @@
 use native.Mathlib.Omega.{arith}
 use mathlib.Core.Path.{◌≡◌, sym, ap, ◌∙◌}
 use Rattle.pool.specs.Tables.{Pool, E}
-use Rattle.comparison.proofs.CallLaws.{err_is, first_missing, second_missing, pool_refused, row_missing, rows_differ, rows_equal}
+use Rattle.pool_check.proofs.Verdicts.{err_is}
+use Rattle.comparison.proofs.CallLaws.{first_missing, second_missing, pool_refused, row_missing, rows_differ, rows_equal}
 use Rattle.comparison.proofs.compare.Goals.{then-exprs-first-via-then-exprs-first, then-exprs-first-via-else-exprs-first+then-exprs-second}
 use Rattle.comparison.proofs.compare.Goals as goal
 

@@ -1,7 +1,7 @@
 use mathlib.Core.Path.{sym, ap, ◌∙◌}
 use Rattle.pool.specs.Tables.{Pool}
 use Rattle.binders.specs.Options.{indented}
-use Rattle.comparison.proofs.CallLaws.{err_is}
+use Rattle.pool_check.proofs.Verdicts.{err_is}
 use Rattle.declarations.specs.Roots.{root_doc}
 use Rattle.lister.specs.Answers.{Answer}
 use Rattle.lister.specs.Prints.{Areas, print_doc, has_root}

@@ -2,7 +2,7 @@ use Rattle.std.proofs.Common.{arith, refl}
 use Rattle.pool.specs.declared.kinds.LevelKind.TheVariants.{Zero, Param}
 use Rattle.pool.proofs.RowUnfolds.{level_kind_small}
 use Rattle.compare.proofs.LevelLaws.{one_row, other_kinds, both_zero, branches, names_there, params_are}
-use Rattle.compare.proofs.Standing.{found_kind, levels_one, levels_two}
+use Rattle.pool.proofs.Standing.{found_kind, levels_one, levels_two}
 use Rattle.compare.proofs.levels.glance.Goals as goal
 
 pub returns-then-a-b : goal.returns-then-a-b

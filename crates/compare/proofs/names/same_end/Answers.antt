@@ -2,7 +2,7 @@ use Rattle.std.proofs.Common.{eq-eqb, ne_eqb}
 use Rattle.pool.specs.declared.kinds.NameKind.TheVariants.{String}
 use Rattle.compare.specs.Equal.{ends_same}
 use Rattle.compare.proofs.NameLaws.{string_rows}
-use Rattle.compare.proofs.Standing.{names_placed, kind_is, kind_not}
+use Rattle.pool.proofs.Standing.{names_placed, kind_is, kind_not}
 use Rattle.compare.proofs.names.same_end.Goals as goal
 
 pub same_string-requires : goal.same_string-requires

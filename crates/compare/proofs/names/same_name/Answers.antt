@@ -1,7 +1,7 @@
 use Rattle.std.proofs.Common.{arith, refl}
 use Rattle.pool.specs.declared.kinds.NameKind.TheVariants.{Anonymous}
 use Rattle.compare.proofs.NameLaws.{kinds_differ, both_roots, same_row, ends_differ, ends_same_lem, prefixes, two_names}
-use Rattle.compare.proofs.Standing.{names_placed, kind_is, kind_not, names_one, names_two}
+use Rattle.pool.proofs.Standing.{names_placed, kind_is, kind_not, names_one, names_two}
 use Rattle.compare.proofs.names.same_name.Goals as goal
 
 pub returns-then-ne : goal.returns-then-ne

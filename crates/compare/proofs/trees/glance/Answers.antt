@@ -1,5 +1,5 @@
 use Rattle.compare.proofs.EqualLaws.{other_depths, other_labels, low_differs, low_agrees, below_differs, apart_differs, not_lifted, may_be}
-use Rattle.compare.proofs.Standing.{exprs_one, exprs_two}
+use Rattle.pool.proofs.Standing.{exprs_one, exprs_two}
 use Rattle.std.proofs.Common.{refl}
 use Rattle.compare.proofs.trees.glance.Goals as goal
 

@@ -2,7 +2,7 @@ use Rattle.std.proofs.Common.{refl, arith, ◌∙◌}
 use Rattle.pool.proofs.ExprUnfolds.{kind_small}
 use Rattle.pool.specs.declared.kinds.ExprKind.TheVariants.{Var, Sort, Const, App, Pi, Lambda, Let, Proj, Nat, String}
 use Rattle.compare.proofs.EqualLaws.{say_var, say_const, say_app, say_sort, say_named, say_literal, same_kind}
-use Rattle.compare.proofs.Standing.{found_kind}
+use Rattle.pool.proofs.Standing.{found_kind}
 use Rattle.compare.proofs.trees.same_fields.Goals as goal
 
 pub returns-in-Some-Var : goal.returns-in-Some-Var

@@ -1,5 +1,7 @@
-use Rattle.std.proofs.Common.{sym, ◌∙◌, rules}
-use Rattle.difference.proofs.WalkLaws.{known_at_once, kinds_at_once, one_kind, fields_at_once, parts_at_once}
+use Rattle.std.proofs.Common.{refl, sym, ◌∙◌}
+use Rattle.pool.specs.Views.{lent}
+use Rattle.pool.proofs.Standing.{exprs_one, exprs_two}
+use Rattle.difference.proofs.WalkLaws.{known_at_once, kinds_at_once, fields_at_once, parts_at_once}
 use Rattle.difference.proofs.walk.at_once.Goals as goal
 
 pub returns-then-is_plain : goal.returns-then-is_plain
@@ -8,20 +10,20 @@ returns-then-is_plain c =
 
 pub returns-then-ne : goal.returns-then-ne
 returns-then-ne c =
-    kinds_at_once _ c.args.pool.now.sound _ _ _ _ _ c.requires c.expr_kind.ensures c.expr_kind-2.ensures (λ e. search rules)
+    kinds_at_once _ c.args.pool.now.sound _ _ _ _ _ c.requires
+    (exprs_two _ c.args.pool.now.sound _ _ c.requires.a_row _ _ c.expr_kind-kind.ensures c.expr_kind.ensures _ c.ne.ensures c.if-ne.true)
 
-pub same_fields-requires : goal.same_fields-requires
-same_fields-requires c =
-    let kind = c.expr-kind.ensures.0 in
-    let one = one_kind _ c.args.pool.now.sound _ c.args.d c.args.c _ _ c.requires c.expr_kind.ensures c.expr_kind-2.ensures (search rules) in
-    record { a_row = c.requires.a_row; b_row = c.requires.b_row; a_kind = kind; b_kind = kind ∙ one }
+pub same_fields-requires-clause-same : goal.same_fields-requires-clause-same
+same_fields-requires-clause-same c =
+    let one = exprs_one (lent c.args.pool.now) c.args.pool.now.sound _ _ c.requires.a_row _ _ c.expr_kind-kind.ensures c.expr_kind.ensures _ c.ne.ensures c.if-ne.false in
+    record { a_row = c.requires.a_row; b_row = c.requires.b_row; a_kind = refl; b_kind = one }
 
 pub returns-then-not-same_fields : goal.returns-then-not-same_fields
 returns-then-not-same_fields c =
-    fields_at_once _ c.args.pool.now.sound _ _ _ _ _ c.requires c.expr_kind.ensures c.expr_kind-2.ensures (search rules) c.expr-kind.ensures.0 _
-    c.same_fields.ensures c.if-not-same_fields.true
+    let one = exprs_one (lent c.args.pool.now) c.args.pool.now.sound _ _ c.requires.a_row _ _ c.expr_kind-kind.ensures c.expr_kind.ensures _ c.ne.ensures c.if-ne.false in
+    fields_at_once _ c.args.pool.now.sound _ _ _ _ _ c.requires one _ c.same_fields.ensures c.if-not-same_fields.true
 
 pub returns : goal.returns
 returns c =
-    parts_at_once _ c.args.pool.now.sound _ _ _ _ _ c.requires c.expr_kind.ensures c.expr_kind-2.ensures (search rules) c.expr-kind.ensures.0 _
-    c.same_fields.ensures c.if-not-same_fields.false
+    let one = exprs_one (lent c.args.pool.now) c.args.pool.now.sound _ _ c.requires.a_row _ _ c.expr_kind-kind.ensures c.expr_kind.ensures _ c.ne.ensures c.if-ne.false in
+    parts_at_once _ c.args.pool.now.sound _ _ _ _ _ c.requires one _ c.same_fields.ensures c.if-not-same_fields.false

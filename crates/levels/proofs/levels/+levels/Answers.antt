@@ -1,7 +1,7 @@
 use Rattle.document.proofs.Leaving.{leaves_same, leaves_as, leaves_after}
 use Rattle.pool.specs.Views.{lent}
 use Rattle.pool.specs.declared.kinds.LevelKind.TheVariants.{Zero}
-use Rattle.levels.proofs.LevelKinds.{level_is, level_not}
+use Rattle.pool.proofs.Standing.{level_is, level_not}
 use Rattle.pool.proofs.RowUnfolds.{level_row, level_kind_small}
 use Rattle.levels.proofs.Universes.{plus_emits, zero_emits, param_below, param_emits, max_below, max_emits, plus_is}
 use Rattle.pieces.proofs.Emitting.{emit_stopped}

@@ -1,6 +1,6 @@
 use Rattle.pool.specs.Views.{lent}
 use Rattle.pool.specs.declared.kinds.LevelKind.TheVariants.{Succ}
-use Rattle.levels.proofs.LevelKinds.{level_is}
+use Rattle.pool.proofs.Standing.{level_is}
 use Rattle.pool.proofs.RowUnfolds.{level_row}
 use Rattle.levels.proofs.Universes.{succ_below, succ_on}
 use native.Mathlib.Omega.{arith}

@@ -1,7 +1,7 @@
 use Rattle.document.proofs.Leaving.{leaves_as}
 use Rattle.pool.specs.Views.{lent}
 use Rattle.pool.specs.declared.kinds.LevelKind.TheVariants.{Succ}
-use Rattle.levels.proofs.LevelKinds.{level_is, level_not}
+use Rattle.pool.proofs.Standing.{level_is, level_not}
 use Rattle.pool.proofs.RowUnfolds.{level_row}
 use Rattle.levels.proofs.Universes.{succ_below, sort_type, sort_sort}
 use Rattle.document.specs.Sink.{emit}

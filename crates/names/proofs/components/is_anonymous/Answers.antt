@@ -1,7 +1,7 @@
 use Rattle.pool.specs.Views.{lent}
 use Rattle.pool.specs.declared.kinds.NameKind.TheVariants.{Anonymous}
 use Rattle.pool.proofs.RowUnfolds.{name_row}
-use Rattle.names.proofs.NameKinds.{name_test}
+use Rattle.pool.proofs.Standing.{name_test}
 use Rattle.names.proofs.Rows.{anonymous_by}
 use mathlib.Core.Path.{◌∙◌}
 use Rattle.names.proofs.components.is_anonymous.Goals as goal

@@ -2,7 +2,7 @@ use Rattle.document.proofs.Leaving.{leaves_as}
 use Rattle.pool.specs.Views.{lent}
 use Rattle.pool.specs.Tables.{string_at}
 use Rattle.pool.specs.declared.kinds.NameKind.TheVariants.{String}
-use Rattle.names.proofs.NameKinds.{name_is, name_not}
+use Rattle.pool.proofs.Standing.{name_is, name_not}
 use Rattle.pool.proofs.RowUnfolds.{name_row}
 use Rattle.names.proofs.Rows.{fits_by, component_string, component-number}
 use Rattle.names.proofs.components.put_component.Goals as goal

@@ -8,7 +8,7 @@ use Rattle.binders.specs.Spines.{drop_arguments}
 use Rattle.pretty_printer.specs.Parts.{app_part}
 use Rattle.pretty_printer.proofs.exprs.+exprs.Given as goal
 
--- a row more counts more than any step on one row: from what follows a part (5) down to the groups and a let's parts (0)
+-- a row more counts more than any step on one row: from what follows a part, or stands in an application (5), down to the groups and a let's parts (0)
 abbrev pub decreases-pp_app : goal.decreases-pp_app
 decreases-pp_app l = l.r * 8 + 1
 
@@ -20,6 +20,9 @@ decreases-pp_chain l = l.r * 8 + 3
 
 abbrev pub decreases-pp_expr : goal.decreases-pp_expr
 decreases-pp_expr l = l.r * 8 + 4
+
+abbrev pub decreases-pp_inside : goal.decreases-pp_inside
+decreases-pp_inside l = l.r * 8 + 5
 
 abbrev pub decreases-pp_let : goal.decreases-pp_let
 decreases-pp_let l = l.r * 8 + 1

@@ -73,6 +73,16 @@ name_place Number = refl
 pub names_placed : Places NameType name_code 2
 names_placed = record { place = name_place; low = λ k. grind arith }
 
+module _ (w : ℕ) (o : Option NameType.D) (s : Stands name_code 2 w o) (k : NameType.D) (b : Bool) (e : b ≡ option_eq (sameb NameType) o (Some k)) where
+  pub name_test : b ≡ eqb w (name_code k)
+  name_test = kind_test NameType name_code 2 w names_placed o s k b e
+
+  pub name_is : b ≡ true → w ≡ name_code k
+  name_is = kind_is NameType name_code 2 w names_placed o s k b e
+
+  pub name_not : b ≡ false → w ≡ name_code k → ⊥
+  name_not = kind_not NameType name_code 2 w names_placed o s k b e
+
 module _ (p : Pool) (sound : Sound p) (a b : ℕ) (h : a < N p.names) (o q : Option NameType.D) (s : Stands name_code 2 (name_word p.names a 0) o)
     (t : Stands name_code 2 (name_word p.names b 0) q) (v : Bool) (e : v ≡ not (option_eq (sameb NameType) o q)) where
   low_name : name_word p.names a 0 ≤ 2
@@ -95,6 +105,13 @@ level_place Param = refl
 
 pub levels_placed : Places LevelType level_code 4
 levels_placed = record { place = level_place; low = λ k. grind arith }
+
+module _ (w : ℕ) (o : Option LevelType.D) (s : Stands level_code 4 w o) (k : LevelType.D) (b : Bool) (e : b ≡ option_eq (sameb LevelType) o (Some k)) where
+  pub level_is : b ≡ true → w ≡ level_code k
+  level_is = kind_is LevelType level_code 4 w levels_placed o s k b e
+
+  pub level_not : b ≡ false → w ≡ level_code k → ⊥
+  level_not = kind_not LevelType level_code 4 w levels_placed o s k b e
 
 module _ (p : Pool) (sound : Sound p) (a b : ℕ) (h : a < L p.words) (o q : Option LevelType.D) (s : Stands level_code 4 (level_word p.words a 0) o)
     (t : Stands level_code 4 (level_word p.words b 0) q) (v : Bool) (e : v ≡ not (option_eq (sameb LevelType) o q)) where
