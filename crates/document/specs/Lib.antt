@@ -4,6 +4,7 @@ pub mod Rows
 pub mod Stored
 pub mod Walk
 -- what the contracts and the proofs speak of
+pub mod Codes
 pub mod Stops
 pub mod Sink
 pub mod Leaves

@@ -2,7 +2,8 @@
 ghost use Rattle.std.specs.Prelude.{◌≡◌, ◌+◌, ◌*◌, ◌<◌, ◌≤◌, ◌&&◌, eqb, length};
 ghost use Rattle.document.specs.Rows.{word, fields_ok, derived, rule_ok, own_text, fault, found, counts_ok};
 
-use crate::measures::{Measures, joined, measures_in, word_in, wrapped};
+use crate::kinds::RowKind;
+use crate::measures::{Measures, joined, kind_in, measures_in, word_in, wrapped};
 
 // A given document: its areas, and how many rows and text bytes it is said to have.
 #[derive(Clone, Copy)]
@@ -25,20 +26,22 @@ impl Document<'_> {
             && self.total <= 65536
     }
 
-    // The rule of the kind and the two fields of row r, with `before` text bytes before it. The kinds are words of the rows: 0 text,
-    // 1 join, 2 break, 3 nest, 4 group.
+    // The rule of the kind and the two fields of row r, with `before` text bytes before it.
     fn fields_ok(&self, before: usize, r: usize) -> bool
         requires { (before ≤ 70368744177664) × (r * 7 + 7 ≤ length self.now.rows.now) }
         ensures { result ≡ fields_ok self.now.rows.now self.now.total before r (word self.now.rows.now r 0) }
     {
         let a = word_in(self.rows, r, 1);
         let b = word_in(self.rows, r, 2);
-        match word_in(self.rows, r, 0) {
-            0 => a == before && before + b <= self.total,
-            1 => word_in(self.rows, r.saturating_sub(1), 3) < r && a == 0 && b == 0,
-            2 => a < 2 && b == 0,
-            3 => 0 < r && a < 65 && b == 0,
-            kind => 0 < r && kind == 4 && a == 0 && b == 0,
+        match kind_in(self.rows, r) {
+            Some(RowKind::Text) => a == before && before + b <= self.total,
+            Some(RowKind::Join) => {
+                word_in(self.rows, r.saturating_sub(1), 3) < r && a == 0 && b == 0
+            }
+            Some(RowKind::Break) => a < 2 && b == 0,
+            Some(RowKind::Nest) => 0 < r && a < 65 && b == 0,
+            Some(RowKind::Group) => 0 < r && a == 0 && b == 0,
+            None => false,
         }
     }
 
@@ -86,8 +89,8 @@ fn derived_at(rows: &[u32], r: usize) -> Measures
     ensures { result ≡ derived rows.now r (word rows.now r 0) }
 {
     let right = r.saturating_sub(1);
-    match word_in(rows, r, 0) {
-        0 => {
+    match kind_in(rows, r) {
+        Some(RowKind::Text) => {
             let size = word_in(rows, r, 2);
             Measures {
                 count: 1,
@@ -96,11 +99,11 @@ fn derived_at(rows: &[u32], r: usize) -> Measures
                 has: 0,
             }
         }
-        1 => {
+        Some(RowKind::Join) => {
             let last = measures_in(rows, right);
             joined(measures_in(rows, right.saturating_sub(last.count)), last)
         }
-        2 => Measures {
+        Some(RowKind::Break) => Measures {
             count: 1,
             flat: word_in(rows, r, 1),
             first: 0,
@@ -115,9 +118,8 @@ fn own_text(rows: &[u32], r: usize) -> usize
     requires { r * 7 + 7 ≤ length rows.now }
     ensures { (result ≡ own_text rows.now r (word rows.now r 0)) × (result < 4294967296) }
 {
-    if word_in(rows, r, 0) == 0 {
-        word_in(rows, r, 2)
-    } else {
-        0
+    match kind_in(rows, r) {
+        Some(RowKind::Text) => word_in(rows, r, 2),
+        _ => 0,
     }
 }

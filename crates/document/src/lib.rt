@@ -3,6 +3,7 @@
 
 pub mod accepted;
 pub mod check;
+pub mod kinds;
 pub mod measures;
 pub mod sink;
 pub mod written;

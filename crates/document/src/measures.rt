@@ -2,6 +2,9 @@
 ghost use Rattle.std.specs.Prelude.{◌≡◌, ℕ, ◌+◌, ◌-◌, ◌*◌, ◌<◌, ◌≤◌, length};
 ghost use Rattle.document.specs.Doc;
 ghost use Rattle.document.specs.Rows.{word, left_of, measures_at, Small};
+ghost use Rattle.document.specs.Codes.{Stands};
+
+use crate::kinds::RowKind;
 
 // Its last word, `has`, is 1 if there is a break and else 0: a number, as C has it in a document's row.
 #[derive(Clone, Copy, Debug, PartialEq, Eq)]
@@ -30,6 +33,21 @@ pub fn word_in(rows: &[u32], r: usize, k: usize) -> usize
     ensures { (result ≡ word rows.now r k) × (result < 4294967296) }
 {
     rows[r * 7 + k] as usize
+}
+
+// The kind of row r, if its first word stands for one.
+pub fn kind_at(rows: &[u32], r: usize) -> Option<RowKind>
+    ensures { Stands (word rows.now r 0) result }
+{
+    RowKind::try_from(word_at(rows, r, 0)).ok()
+}
+
+// The same of a row that lies in the area, without a test.
+pub fn kind_in(rows: &[u32], r: usize) -> Option<RowKind>
+    requires { r * 7 + 7 ≤ length rows.now }
+    ensures { Stands (word rows.now r 0) result }
+{
+    RowKind::try_from(word_in(rows, r, 0)).ok()
 }
 
 // The row of the left child of a join at row r, whose right one lies in the area.

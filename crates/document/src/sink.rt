@@ -2,9 +2,11 @@
 // stopped, no function writes or changes anything, so that printers need no branch after each call.
 ghost use Rattle.std.specs.Prelude.{◌≡◌, [], ◌∷◌, length, replicate, is_some};
 ghost use Rattle.document.specs.Sink.{refuse, put_row, put_byte, put_bytes, room_of, end_text, put_text, put_break, put_join, put_nest, put_group, put_wrapped, put_names, stop_with};
+ghost use Rattle.document.specs.Codes.{row_code};
 ghost use Rattle.document.specs.Leaves.{Leaves, Begins};
 ghost use Rattle.document.specs.Rows.{Small};
 
+use crate::kinds::RowKind;
 use crate::measures::{Measures, joined, measures_at, wrapped};
 use crate::written::{Stop, Written};
 use basics::numbers::low;
@@ -63,8 +65,8 @@ impl<'a> Sink<'a> {
 
     // One row. Number 8 is tested before 20.
     #[tactic(auto, using(crate::proofs::Areas::row_over), unfolding(crate::specs::Sink::put_row))]
-    fn put_row(&mut self, kind: u32, a: u32, b: u32, m: Measures)
-        ensures { Leaves self.old self.new (put_row kind a b m) }
+    fn put_row(&mut self, kind: RowKind, a: u32, b: u32, m: Measures)
+        ensures { Leaves self.old self.new (put_row (row_code kind) a b m) }
     {
         if self.is_stopped() {
             return;
@@ -79,7 +81,7 @@ impl<'a> Sink<'a> {
         }
         // Word by word: an array that is copied over is made on the stack first.
         let row = &mut self.rows[at..at + 7];
-        row[0] = kind;
+        row[0] = kind.code();
         row[1] = a;
         row[2] = b;
         row[3] = low(m.count);
@@ -159,7 +161,7 @@ impl<'a> Sink<'a> {
             first: size,
             has: 0,
         };
-        self.put_row(0, low(from), low(size), m);
+        self.put_row(RowKind::Text, low(from), low(size), m);
     }
 
     #[tactic(auto, unfolding(crate::specs::Sink::put_text))]
@@ -201,7 +203,7 @@ impl<'a> Sink<'a> {
             first: 0,
             has: 1,
         };
-        self.put_row(2, blank, 0, m);
+        self.put_row(RowKind::Break, blank, 0, m);
     }
 
     // The measures of the subtree that ends at a row.
@@ -219,13 +221,13 @@ impl<'a> Sink<'a> {
         let last = self.written.rows.saturating_sub(1);
         let right = self.measured(last);
         let left = self.measured(last.saturating_sub(right.count));
-        self.put_row(1, 0, 0, joined(left, right));
+        self.put_row(RowKind::Join, 0, 0, joined(left, right));
     }
 
     // Puts a row of a kind over the subtree written last.
     #[tactic(auto, unfolding(crate::specs::Sink::put_wrapped))]
-    fn put_wrapped(&mut self, kind: u32, a: u32)
-        ensures { Leaves self.old self.new (put_wrapped kind a) }
+    fn put_wrapped(&mut self, kind: RowKind, a: u32)
+        ensures { Leaves self.old self.new (put_wrapped (row_code kind) a) }
     {
         let last = self.written.rows.saturating_sub(1);
         self.put_row(kind, a, 0, wrapped(self.measured(last)));
@@ -234,13 +236,13 @@ impl<'a> Sink<'a> {
     pub fn put_nest(&mut self, amount: u32)
         ensures { Leaves self.old self.new (put_nest amount) }
     {
-        self.put_wrapped(3, amount);
+        self.put_wrapped(RowKind::Nest, amount);
     }
 
     pub fn put_group(&mut self)
         ensures { Leaves self.old self.new put_group }
     {
-        self.put_wrapped(4, 0);
+        self.put_wrapped(RowKind::Group, 0);
     }
 }
 

@@ -6,7 +6,8 @@ ghost use Rattle.layout.specs.Contract.{TextRoom, BreakRoom, Room, next_of_left,
 ghost use Rattle.layout.specs.Frames.{Emits, LaysOut};
 
 use crate::listing::Listing;
-use document::measures::{left_of, through, word_in};
+use document::kinds::RowKind;
+use document::measures::{kind_in, left_of, through, word_in};
 
 // The distance from the end of the left child of the join at row r to the next break, where it is `next` at the join's end.
 pub fn next_of_left(rows: &[u32], r: usize, next: usize) -> usize
@@ -55,16 +56,16 @@ pub fn lay_out(
     let mut nest = nest0;
     let mut flat = flat0;
     'row: loop {
-        // The kinds are words of the rows, as C has them: 0 text, 1 join, 2 break, 3 nest, 4 group.
-        match word_in(rows, r, 0) {
-            0 => return lay_text(r, rows, text, listing),
-            1 => {
+        match kind_in(rows, r) {
+            Some(RowKind::Text) => return lay_text(r, rows, text, listing),
+            Some(RowKind::Join) => {
                 let left = left_of(rows, r);
                 let past = next_of_left(rows, r, next);
                 lay_out(left, rows, text, nest, flat, past, listing);
             }
-            2 => return lay_break(r, rows, nest, flat, listing),
-            3 => nest += word_in(rows, r, 1),
+            Some(RowKind::Break) => return lay_break(r, rows, nest, flat, listing),
+            Some(RowKind::Nest) => nest += word_in(rows, r, 1),
+            // A group: each row of an accepted document has a kind.
             _ => flat = flat || listing.fits(word_in(rows, r, 4), next),
         }
         r -= 1;

@@ -4,7 +4,8 @@ ghost use Rattle.layout_pending.specs.Contract.{TestRoom, Lends};
 ghost use Rattle.layout_pending.specs.Frames.{Asks, LaysOutWhole};
 
 use crate::entries::{Entry, entry_at, put};
-use document::measures::word_in;
+use document::kinds::RowKind;
+use document::measures::{kind_in, word_in};
 use layout::cursor::Cursor;
 use layout::listing::Listing;
 use layout::rows::{lay_break, lay_text};
@@ -36,26 +37,26 @@ pub fn lay_out_pending(
     while 0 < depth {
         let top = depth - 1;
         let e = entry_at(pending, top);
-        // The kinds, as in `layout::rows`: 0 text, 1 join, 2 break, 3 nest, 4 group.
-        match word_in(rows, e.row, 0) {
-            0 => {
+        match kind_in(rows, e.row) {
+            Some(RowKind::Text) => {
                 lay_text(e.row, rows, text, &mut listing);
                 depth = top;
             }
-            1 => {
+            Some(RowKind::Join) => {
                 put(pending, top, e.last_child(e.nest, e.flat));
                 put(pending, depth, e.left_child(rows));
                 depth += 1;
             }
-            2 => {
+            Some(RowKind::Break) => {
                 lay_break(e.row, rows, e.nest, e.flat, &mut listing);
                 depth = top;
             }
-            3 => put(
+            Some(RowKind::Nest) => put(
                 pending,
                 top,
                 e.last_child(e.nest + word_in(rows, e.row, 1), e.flat),
             ),
+            // A group: each row of an accepted document has a kind.
             _ => {
                 let flat = is_flat(rows, e, &mut listing);
                 put(pending, top, e.last_child(e.nest, flat));

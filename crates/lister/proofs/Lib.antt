@@ -2,4 +2,5 @@ pub mod AnswerLaws
 pub mod NumberLaws
 pub mod Beginning
 pub mod Finishing
+pub mod RowKinds
 pub mod HandingLaws

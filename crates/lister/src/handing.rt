@@ -7,7 +7,8 @@ ghost use Rattle.lister.specs.Frames.{given};
 use crate::Part;
 use crate::source::Source;
 use document::check::Document;
-use document::measures::word_at;
+use document::kinds::RowKind;
+use document::measures::{kind_at, word_at};
 use pool::fields::{STRING_LENGTH, STRING_OFFSET};
 
 // The bytes of a part; what lies past the end is left out.
@@ -29,7 +30,7 @@ fn has_text(document: &Document<'_>, r: usize) -> bool
     if document.fault().is_some() {
         return false;
     }
-    r < document.count && word_at(document.rows, r, 0) == 0
+    r < document.count && kind_at(document.rows, r) == Some(RowKind::Text)
 }
 
 // Where its bytes lie in the text area: nothing, at offset 0, unless the document is accepted and has that row.
