@@ -15,14 +15,14 @@ use Rattle.pool.specs.Unfold.{name_at, level_at, levels_from, list_at}
 use Rattle.pool.proofs.TreeLaws.{shape_same, shape_equal, shapes_same, labels_differ, levels_equal_lem}
 use Rattle.pool.proofs.RowUnfolds.{zero_at, succ_at, max_at, imax_at, param_at, succ_ok, succ_rest, max_ok, imax_ok, param_ok, level_kind_small, level_label_word}
 use Rattle.pool.proofs.RowUnfolds.{list_fits, entry-fits}
-use Rattle.compare.specs.Seen.{packed, is_held, with_key, Holds}
+use Rattle.compare.specs.Seen.{packed, with_key, Holds}
 use Rattle.pool.specs.Sound.{Sound}
 use Rattle.links.specs.Links.{Clear, Linked, Settled}
 use Rattle.links.proofs.LinkLaws.{clear_owes}
 use Rattle.occurrence.specs.Asked.{Told}
 use Rattle.occurrence.proofs.SearchLaws.{told}
 use Rattle.compare.specs.Equal.{Quick, Compared, levels_same, level_shape_at, EqualLevels, Branches, TwoLevels, lists_same, TwoLists}
-use Rattle.compare.proofs.SeenLaws.{holds_hit, holds_put}
+use Rattle.compare.proofs.SeenLaws.{holds_put}
 
 -- ---- a first look
 

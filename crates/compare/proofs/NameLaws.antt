@@ -2,11 +2,10 @@
 use Prim.Native.Nat.{ℕ, zero, suc, ◌+◌, ◌-◌, ◌<◌, ◌≤◌}
 use native.Mathlib.Omega.{arith}
 use mathlib.Core.Bool.{Bool, true, false, ◌&&◌}
-use mathlib.Core.List.{List, [], ◌∷◌}
+use mathlib.Core.List.{List}
 use mathlib.Core.Path.{◌≡◌, refl, sym, ap, ap₂, ◌∙◌}
 use lib.ListN.{length, take, drop}
 use lib.Dec.{eqb}
-use lib.Pointwise.{pointwise}
 use Rattle.basics.proofs.Booleans.{and-true}
 use Rattle.utf8.specs.Letterlike.{same_bytes}
 use Rattle.pool.specs.Tables.{Pool, N, name_word, string_word, string_at}

@@ -2,17 +2,16 @@
 use Prim.Native.Nat.{ℕ, suc, ◌+◌, ◌<◌, ◌≤◌}
 use native.Mathlib.Omega.{arith}
 use native.Mathlib.Numerals.{add-one}
-use mathlib.Core.Bool.{Bool, true, false, ◌&&◌, ◌||◌, not, cond}
+use mathlib.Core.Bool.{Bool, true, false, ◌&&◌, not, cond}
 use mathlib.Core.List.{List, [], ◌∷◌}
 use mathlib.Core.Path.{◌≡◌, refl, sym, ap, ap₂, ◌∙◌}
 use lib.Dec.{eqb}
 use lib.ListN.{length}
 use Rattle.basics.proofs.Booleans.{and_both, and-true}
-use Rattle.pool.specs.Tables.{Pool, N, E, expr_word}
+use Rattle.pool.specs.Tables.{Pool, E, expr_word}
 use Rattle.pool.specs.Tree.{Name, Expr, var, sort, const, app, pi, lam, letᵉ, proj, nat, str, lift, occurs}
 use Rattle.pool.specs.Unfold.{name_at, expr_at}
 use Rattle.pool.specs.Sound.{Sound}
-use Rattle.names.specs.Names.{is_anonymous}
 use Rattle.binders.specs.Binders.{Binder, binders}
 use Rattle.declarations.specs.Declars.{can_leave, Taken, taken}
 use Rattle.declarations.specs.Heads.{can_take, TakenEnd}

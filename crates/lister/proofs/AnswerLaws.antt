@@ -8,13 +8,11 @@ use lib.ListN.{length}
 use Rattle.document.specs.Doc.{Doc}
 use Rattle.document.specs.Walk.{Marked, unmarked, Progress, going, stopped, walk}
 use Rattle.layout.specs.declared.Counts.{Counts}
-use Rattle.layout.specs.declared.LayoutError.{LayoutError}
 use Rattle.layout.specs.Call as layout
 use Rattle.std.specs.Prelude.{Result, Ok, Err}
 use Rattle.pool_check.specs.declared.PoolError.{PoolError}
-use Rattle.lister.specs.declared.error.PrintError.{PrintError}
 use Rattle.lister.specs.declared.error.PrintError.TheVariants.{Names, Document, RowArea, TextArea}
-use Rattle.lister.specs.Answers.{Answer, of_pool, number, refusal, stop_answer, of_laid}
+use Rattle.lister.specs.Answers.{number, stop_answer, of_laid}
 use Rattle.lister.specs.Prints.{Areas, Outcome, untouched, document_cleared, document_listed, after_walk, print_doc, checked}
 
 -- a print that has begun answers 0, or 7 and more

@@ -1,8 +1,8 @@
 -- What is tested before a print begins.
 use Prim.Native.Nat.{ℕ}
 use mathlib.Core.Bool.{true, false}
-use mathlib.Core.Path.{◌≡◌, sym, ap, ◌∙◌}
-use lib.Dec.{ltb, leb}
+use mathlib.Core.Path.{◌≡◌}
+use lib.Dec.{leb}
 use Rattle.std.specs.Prelude.{Ok, Err}
 use Rattle.basics.proofs.Booleans.{and_both}
 use borrow.Author.Tests.{ltb-true, leb-true}

@@ -1,13 +1,9 @@
 -- What follows the walk makes a print's outcome of it.
 use Prim.Native.Nat.{ℕ, ◌-◌, ◌*◌, ◌≤◌}
-use native.Mathlib.Omega.{arith}
-use mathlib.Core.Bool.{true, false}
 use mathlib.Core.List.{List, ◌++◌}
 use mathlib.Core.Path.{◌≡◌, refl, sym, ap, ap₂, ◌∙◌, subst}
-use lib.Dec.{eqb}
 use Rattle.layout.specs.declared.Counts.{Counts}
 use lib.ListN.{length, replicate}
-use borrow.Author.Tests.{eq-eqb, ne_eqb}
 use Rattle.document.specs.declared.written.Written.{Written}
 use Rattle.document.specs.Doc.{Doc, row_count, text_bytes}
 use Rattle.document.specs.Rows.{Accepted}

@@ -12,7 +12,7 @@ use Rattle.document.specs.Codes.{Stands, row_code}
 use Rattle.document.specs.declared.kinds.RowKind.{RowKind}
 use Rattle.document.specs.declared.kinds.RowKind.TheVariants.{Text, Join, Break, Nest, Group}
 use Rattle.document.specs.contracts.kinds.RowKind.{the_type}
-use Rattle.names.proofs.Standing.{Places, kind_test}
+use Rattle.pool.proofs.Standing.{Places, kind_test}
 
 place : (k : RowKind) → tag_of the_type k ≡ row_code k
 place Text = refl

@@ -59,14 +59,7 @@ pub fn pp_expr(p: &Printer<'_>, sink: &mut Sink<'_>, k: Stack, scope: usize, r: 
 // An expression in an application: what has no parts needs no stack, and no copy of it. Inlined, so that the stack is not copied here.
 #[inline(always)]
 #[cycle(exprs)]
-fn pp_inside(
-    p: &Printer<'_>,
-    sink: &mut Sink<'_>,
-    k: &Stack,
-    scope: usize,
-    r: usize,
-    outer: usize,
-)
+fn pp_inside(p: &Printer<'_>, sink: &mut Sink<'_>, k: &Stack, scope: usize, r: usize, outer: usize)
     requires { (Asked (pool_of p.now) k.now scope r) × (outer ≤ 1024) }
     ensures { Leaves sink.old sink.new (emit (under outer (row_in (options_of p.now) (pool_of p.now) k.now scope r))) }
 {

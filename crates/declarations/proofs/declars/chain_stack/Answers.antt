@@ -1,4 +1,4 @@
-use Rattle.declarations.proofs.DeclarLaws.{chain_alone, held_none}
+use Rattle.declarations.proofs.DeclarLaws.{chain_alone}
 use Rattle.declarations.proofs.declars.chain_stack.Goals as goal
 
 pub returns : goal.returns

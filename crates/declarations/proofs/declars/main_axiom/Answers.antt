@@ -2,7 +2,7 @@ use Rattle.document.proofs.Leaving.{leaves_as, leaves_after}
 use mathlib.Core.Path.{sym, ap, ◌∙◌}
 use native.Mathlib.Omega.{arith}
 use Rattle.std.specs.Prelude.{is_none, not}
-use Rattle.document.specs.Sink.{State, written_of, put_names}
+use Rattle.document.specs.Sink.{State, written_of}
 use Rattle.pretty_printer.proofs.CallLaws.{names_fit}
 use Rattle.declarations.proofs.DeclarLaws.{declared_row, axiom_stops, axiom_goes_on, chain_after, run_fits}
 use Rattle.declarations.proofs.declars.main_axiom.Goals as goal

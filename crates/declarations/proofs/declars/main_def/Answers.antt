@@ -2,7 +2,7 @@ use Rattle.document.proofs.Leaving.{leaves_as, leaves_after}
 use mathlib.Core.Path.{sym, ap, ◌∙◌}
 use native.Mathlib.Omega.{arith}
 use Rattle.std.specs.Prelude.{is_none, not}
-use Rattle.document.specs.Sink.{State, written_of, put_names}
+use Rattle.document.specs.Sink.{State, written_of}
 use Rattle.pretty_printer.proofs.CallLaws.{names_fit}
 use Rattle.declarations.proofs.DeclarLaws.{declared_row, def_stops, def_goes_on}
 use Rattle.declarations.proofs.declars.main_def.Goals as goal
