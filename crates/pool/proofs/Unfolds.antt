@@ -1,22 +1,22 @@
 -- Unfolding does not depend on the bound once it is above the row, where references go to lower rows: so the tree of a row is
 -- its node over the trees of the rows it refers to.
-use Prim.Native.Nat.{ℕ, zero, suc, ◌+◌, ◌*◌, ◌^◌, ◌≤◌, ◌<◌, max}
+use Prim.Native.Nat.{ℕ, zero, suc, ◌+◌, ◌*◌, ◌^◌, ◌<◌, max}
 use native.Mathlib.Omega.{arith}
 use native.Mathlib.Numerals.{one-add}
-use mathlib.Core.Bool.{Bool, true, false}
+use mathlib.Core.Bool.{true}
 use mathlib.Core.List.{List}
-use mathlib.Core.Path.{◌≡◌, refl, sym, ap, ap₂, ◌∙◌, subst}
+use mathlib.Core.Path.{◌≡◌, refl, sym, ap, ap₂, ◌∙◌}
 use lib.ListN.{length, get_or, set}
 use lib.Seq.{get_or-set_same, get_or-set_other}
 use borrow.Author.Count.{below_more}
 use lib.Dec.{ltb}
-use borrow.Author.Tests.{ltb-true, ltb-false, le-leb, lt-leb}
+use borrow.Author.Tests.{ltb-true}
 use Rattle.pool.specs.Tables.{Pool, name_word, level_word, expr_word, string_at}
 use Rattle.pool.specs.Kinds.{NameKind, name_kind, anonymousᵏ, stringᵏ, numberᵏ, noNameᵏ, LevelKind, level_kind, zeroᵏ, succᵏ, maxᵏ, imaxᵏ, paramᵏ}
 use Rattle.pool.specs.Kinds.{noLevelᵏ, expr_kind}
 use Rattle.pool.specs.Tree.{Name, name_depth, Level, level_depth, string, number, succˡ, maxˡ, imaxˡ}
 use Rattle.pool.specs.Unfold.{name_node, name_to, name_at, level_node, level_to, level_at}
-use Rattle.pool.specs.Rules.{name_fields_ok, name_ok, level_fields_ok, level_ok, expr_fields_ok}
+use Rattle.pool.specs.Rules.{name_fields_ok, level_fields_ok, expr_fields_ok}
 use Rattle.pool.specs.Depths.{name_depth_by, level_depth_by}
 use Rattle.basics.proofs.Booleans.{and_left, and_right}
 
@@ -107,70 +107,14 @@ level_depth_at p ds r imaxᵏ ok e =
 level_depth_at p ds r paramᵏ ok e = refl
 level_depth_at p ds r noLevelᵏ ok e = refl
 
--- one more row is kept
-pub kept_more : (P : ℕ → Bool) (n : ℕ) → ((j : ℕ) → j < n → P j ≡ true) → P n ≡ true → (j : ℕ) → j < suc n → P j ≡ true
-kept_more P n all here j h = by (ltb j n) refl
-  where
-    by : (b : Bool) → ltb j n ≡ b → P j ≡ true
-    by true e = all j (ltb-true j n e)
-    by false e =
-        let g : n ≤ j = ltb-false j n e in
-        let q : n ≡ j = omega arith in
-        subst (λ (i : ℕ). P i ≡ true) q here
+-- the depth of a name row is told by those of lower rows, where its fields and theirs are right
+pub name_depth_told : (p : Pool) (ds : List ℕ) (r : ℕ) → NamesKept p (r + 1) → ((j : ℕ) → j < r → get_or ds j 0 ≡ name_depth (name_at p j))
+    → name_depth_by p.names ds r (name_kind (name_word p.names r 0)) ≡ name_depth (name_at p r)
+name_depth_told p ds r kept known = name_depth_at p ds r _ (kept r (omega arith)) known ∙ sym (ap name_depth (name_unfolds p (r + 1) kept r (omega arith)))
 
--- what the scan of the names learns of a row that is ok
-abbrev pub NameLearnt : Pool → ℕ → ℕ → Type 0
-NameLearnt p r d = (name_ok p r ≡ true) × (d ≡ name_depth (name_at p r)) × (name_fields_ok p.names r (name_kind (name_word p.names r 0)) ≡ true)
-
-module _ (p : Pool) (ds : List ℕ) (r d : ℕ) (kept : NamesKept p r) (known : (j : ℕ) → j < r → get_or ds j 0 ≡ name_depth (name_at p j))
-    (v : Bool) (ev : v ≡ name_fields_ok p.names r (name_kind (name_word p.names r 0))) (y : v ≡ true)
-    (e : d ≡ name_depth_by p.names ds r (name_kind (name_word p.names r 0))) where
-  name_kept_here : name_fields_ok p.names r (name_kind (name_word p.names r 0)) ≡ true
-  name_kept_here = sym ev ∙ y
-
-  name_depth_is : d ≡ name_depth (name_at p r)
-  name_depth_is =
-      e ∙ name_depth_at p ds r _ name_kept_here known
-      ∙ sym (ap name_depth (name_unfolds p (suc r) (kept_more (λ (j : ℕ). name_fields_ok p.names j (name_kind (name_word p.names j 0))) r kept name_kept_here) r (omega arith)))
-
-  pub name_learnt : d ≤ 64 → NameLearnt p r d
-  unfolding name_ok
-  name_learnt h = (rw (name_kept_here, ← name_depth_is, le-leb d 64 h), name_depth_is, name_kept_here)
-
-  pub name_deep : 64 < d → name_ok p r ≡ false
-  unfolding name_ok
-  name_deep h = rw (name_kept_here, ← name_depth_is, lt-leb d 64 h)
-
-pub name_bad : (p : Pool) (r : ℕ) (v : Bool) → v ≡ name_fields_ok p.names r (name_kind (name_word p.names r 0)) → v ≡ false → name_ok p r ≡ false
-unfolding name_ok
-name_bad p r v ev y = rw (sym ev ∙ y)
-
--- what the scan of the levels learns of a row that is ok
-abbrev pub LevelLearnt : Pool → ℕ → ℕ → Type 0
-LevelLearnt p r d = (level_ok p r ≡ true) × (d ≡ level_depth (level_at p r)) × (level_fields_ok p r (level_kind (level_word p.words r 0)) ≡ true)
-
-module _ (p : Pool) (ds : List ℕ) (r d : ℕ) (kept : LevelsKept p r) (known : (j : ℕ) → j < r → get_or ds j 0 ≡ level_depth (level_at p j))
-    (v : Bool) (ev : v ≡ level_fields_ok p r (level_kind (level_word p.words r 0))) (y : v ≡ true)
-    (e : d ≡ level_depth_by p.words ds r (level_kind (level_word p.words r 0))) where
-  level_kept_here : level_fields_ok p r (level_kind (level_word p.words r 0)) ≡ true
-  level_kept_here = sym ev ∙ y
-
-  level_depth_is : d ≡ level_depth (level_at p r)
-  level_depth_is =
-      e ∙ level_depth_at p ds r _ level_kept_here known
-      ∙ sym (ap level_depth (level_unfolds p (suc r) (kept_more (λ (j : ℕ). level_fields_ok p j (level_kind (level_word p.words j 0))) r kept level_kept_here) r (omega arith)))
-
-  pub level_learnt : d ≤ 64 → LevelLearnt p r d
-  unfolding level_ok
-  level_learnt h = (rw (level_kept_here, ← level_depth_is, le-leb d 64 h), level_depth_is, level_kept_here)
-
-  pub level_deep : 64 < d → level_ok p r ≡ false
-  unfolding level_ok
-  level_deep h = rw (level_kept_here, ← level_depth_is, lt-leb d 64 h)
-
-pub level_bad : (p : Pool) (r : ℕ) (v : Bool) → v ≡ level_fields_ok p r (level_kind (level_word p.words r 0)) → v ≡ false → level_ok p r ≡ false
-unfolding level_ok
-level_bad p r v ev y = rw (sym ev ∙ y)
+pub level_depth_told : (p : Pool) (ds : List ℕ) (r : ℕ) → LevelsKept p (r + 1) → ((j : ℕ) → j < r → get_or ds j 0 ≡ level_depth (level_at p j))
+    → level_depth_by p.words ds r (level_kind (level_word p.words r 0)) ≡ level_depth (level_at p r)
+level_depth_told p ds r kept known = level_depth_at p ds r _ (kept r (omega arith)) known ∙ sym (ap level_depth (level_unfolds p (r + 1) kept r (omega arith)))
 
 -- the depths of one more row
 pub depths_more : (ds : List ℕ) (f : ℕ → ℕ) (r d : ℕ) → r < length ds → ((j : ℕ) → j < r → get_or ds j 0 ≡ f j) → d ≡ f r

@@ -2,6 +2,7 @@
 #![tactic(auto)]
 
 mod declars;
+mod depths;
 mod levels;
 mod lists;
 mod names;
