@@ -1,5 +1,6 @@
 // Chains: the longest run of pi and lambda from a row on.
-ghost use Rattle.std.specs.Prelude.{◌≡◌, ◌+◌, ◌<◌, ◌≤◌};
+ghost use Rattle.std.specs.Prelude.{◌≡◌, ℕ, ◌+◌, ◌<◌, ◌≤◌};
+ghost use Rattle.pool.specs.Codes.{Stands, expr_code};
 ghost use Rattle.pool.specs.Tables.{E, expr_word};
 ghost use Rattle.binders.specs.Options.{pool_of};
 ghost use Rattle.pool.specs.Unfold.{expr_at};
@@ -12,12 +13,19 @@ use pool::fields::{BINDER_BODY, BINDER_NAME};
 use pool::kinds::ExprKind;
 use pool::words::Words;
 
-// Whether row r is a pi or a lambda.
+// Whether rows of this kind are pis or lambdas.
 #[tactic(auto, unfolding(crate::specs::Steps::binder_kind))]
-pub fn is_binder(words: &Words<'_>, r: usize) -> bool
+pub fn is_binder(kind: Option<ExprKind>) -> bool
+    ensures { (k : ℕ) → Stands expr_code 9 k kind → result ≡ binder_kind k }
+{
+    matches!(kind, Some(ExprKind::Pi | ExprKind::Lambda))
+}
+
+// Whether row r is one.
+pub fn is_binder_at(words: &Words<'_>, r: usize) -> bool
     ensures { result ≡ binder_kind (expr_word words.now.words.now r 0) }
 {
-    matches!(words.expr_kind(r), Some(ExprKind::Pi | ExprKind::Lambda))
+    is_binder(words.expr_kind(r))
 }
 
 // How many binders the chain at row r has.
@@ -28,7 +36,7 @@ pub fn chain_length(p: &Printer<'_>, r: usize) -> usize
 {
     let mut at = r;
     let mut n = 0;
-    while is_binder(&p.pool.words, at) {
+    while is_binder_at(&p.pool.words, at) {
         n += 1;
         at = p.pool.words.expr(at, BINDER_BODY);
     }
@@ -44,7 +52,7 @@ pub fn push_chain(p: &Printer<'_>, k: &mut Stack, h: usize, r: usize)
 {
     let mut at = r;
     let mut scope = h;
-    while is_binder(&p.pool.words, at) {
+    while is_binder_at(&p.pool.words, at) {
         k.push(p.pool.words.expr(at, BINDER_NAME), scope);
         scope = k.count;
         at = p.pool.words.expr(at, BINDER_BODY);

@@ -43,6 +43,7 @@ pub fn group_end(p: &Printer<'_>, r: usize, n: usize) -> Reached
     let like = p.pool.words.expr(r, BINDER_TYPE);
     let mut at = p.pool.words.expr(r, BINDER_BODY);
     let mut j = 1;
+    // No `for`: the count where it stops is the answer.
     while j < n && in_group(p, at, style, like, j) {
         j += 1;
         at = p.pool.words.expr(at, BINDER_BODY);

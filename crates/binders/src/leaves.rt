@@ -1,5 +1,6 @@
 // Expressions without parts: sorts, constants, literals.
-ghost use Rattle.std.specs.Prelude.{◌≡◌, true, ◌<◌};
+ghost use Rattle.std.specs.Prelude.{◌≡◌, ℕ, true, ◌<◌};
+ghost use Rattle.pool.specs.Codes.{Stands, expr_code};
 ghost use Rattle.pool.specs.Tables.{E, expr_word};
 ghost use Rattle.binders.specs.Options.{pool_of};
 ghost use Rattle.pool.specs.Unfold.{expr_at};
@@ -15,15 +16,22 @@ use pool::fields::{CONST_NAME, LITERAL_STRING, SORT_LEVEL};
 use pool::kinds::ExprKind;
 use pool::words::Words;
 
-// Whether row r has no parts, and is no variable.
+// Whether rows of this kind have no parts, and are no variables.
 #[tactic(auto, unfolding(crate::specs::Leaves::leaf_kind))]
-pub fn is_leaf(words: &Words<'_>, r: usize) -> bool
-    ensures { result ≡ leaf_kind (expr_word words.now.words.now r 0) }
+pub fn is_leaf(kind: Option<ExprKind>) -> bool
+    ensures { (k : ℕ) → Stands expr_code 9 k kind → result ≡ leaf_kind k }
 {
     matches!(
-        words.expr_kind(r),
+        kind,
         Some(ExprKind::Sort | ExprKind::Const | ExprKind::Nat | ExprKind::String)
     )
+}
+
+// Whether row r is one of these.
+pub fn is_leaf_at(words: &Words<'_>, r: usize) -> bool
+    ensures { result ≡ leaf_kind (expr_word words.now.words.now r 0) }
+{
+    is_leaf(words.expr_kind(r))
 }
 
 #[tactic(auto, using(crate::proofs::LeafLaws::leaf_rows), unfolding(crate::specs::Leaves::leaf_kind))]

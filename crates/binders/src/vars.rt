@@ -22,6 +22,7 @@ pub fn pp_bvar(p: &Printer<'_>, sink: &mut Sink<'_>, k: Stack, scope: usize, i: 
 {
     let mut at = scope;
     let mut left = i;
+    // No `for`: how many are left where the scope ends is the answer.
     while at > 0 && left > 0 {
         at = k.entries[at - 1].link as usize;
         left -= 1;

@@ -18,6 +18,7 @@ fn try_entries(pool: &CheckedPool<'_>, x: usize, y: usize, n: usize, steps: usiz
     ensures { Told (lists_same (lent pool.now) x y n) result }
 {
     let mut left = steps;
+    // No iterator: the steps left would be what its closure changes, here and what is owed below.
     for i in 0..n {
         let level_x = pool.words.entry(x + i);
         let level_y = pool.words.entry(y + i);

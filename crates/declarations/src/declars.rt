@@ -75,7 +75,7 @@ fn taken(p: &Printer<'_>, r: usize, value: usize) -> Opened
     }
 }
 
-// The words of the kinds of declarations, in the order of their numbers.
+// The words of the kinds of declarations: a constant table indexed by the kind's word, a form that document 01 names.
 const KEYWORDS: [&[u8]; 8] = [
     b"axiom",
     b"Quotient primitive",

@@ -2,6 +2,9 @@
 ghost use Rattle.std.specs.Prelude.{◌≡◌};
 ghost use Rattle.document.specs.Codes.{Reads, row_code};
 
+use std::error::Error;
+use std::fmt;
+
 #[derive(Clone, Copy, Debug, PartialEq, Eq)]
 pub enum RowKind {
     Text,
@@ -14,6 +17,14 @@ pub enum RowKind {
 // A word that stands for no kind.
 #[derive(Clone, Copy, Debug, PartialEq, Eq)]
 pub struct UnknownRowKind(pub usize);
+
+impl fmt::Display for UnknownRowKind {
+    fn fmt<W: fmt::Write>(&self, f: &mut fmt::Formatter<W>) -> fmt::Result {
+        write!(f, "{} stands for no kind", self.0)
+    }
+}
+
+impl Error for UnknownRowKind {}
 
 impl RowKind {
     // The word that stands for it.

@@ -121,8 +121,6 @@ pub fn wrapped(a: Measures) -> Measures
 {
     Measures {
         count: 1 + a.count,
-        flat: a.flat,
-        first: a.first,
-        has: a.has,
+        ..a
     }
 }

@@ -81,6 +81,7 @@ fn levels(
         (Owes (tree_at (lent pool.now)) (tree_at (lent pool.now)) owed.new) result }
 {
     let mut c = 0;
+    // No `for`: what is owed ends it, which each turn changes.
     while c < depth && highest(cur, n).is_some() {
         let level = lifted_rows(pool, cur, next, owed, d, n, c);
         if level != Some(true) {

@@ -72,6 +72,7 @@ fn ask_var(pool: &Pool<'_>, r: usize, row: &[usize; 8]) -> Option<Asked>
     requires { row.now ≡ row_of (read pool.now).words r }
     ensures { result ≡ asked_by (read pool.now) r varᵏ }
 {
+    // Read again, as what reads a word says that it is below 2³².
     let index = pool.words.expr(r, VAR_INDEX);
     let right = (index <= 4095) & unused(&row[2..6]);
     leaf(right, 1 + index)
@@ -119,6 +120,7 @@ fn ask_binder(pool: &Pool<'_>, r: usize, row: &[usize; 8]) -> Option<Asked>
     let ty = row[BINDER_TYPE];
     let body = row[BINDER_BODY];
     let children = (ty < r) & ((body < r) & unused(&row[5..6]));
+    // A style is tested as the number that it is here, like the other fields.
     let right = (row[BINDER_NAME] < pool.names.tables.names) & ((row[BINDER_STYLE] < 4) & children);
     let depth = over_two(words, ty, body);
     let loose = under_binder(words, ty, body);

@@ -1,4 +1,4 @@
-// The layout as a loop: the top entry is taken until none is left. No function calls itself.
+// The layout as a loop: the top entry is taken until none is left. No function calls itself. Both layouts are C functions.
 ghost use Rattle.std.specs.Prelude.{◌≡◌, ◌+◌, ◌*◌, ◌≤◌, ◌<◌, length};
 ghost use Rattle.layout_pending.specs.Contract.{TestRoom, Lends};
 ghost use Rattle.layout_pending.specs.Frames.{Asks, LaysOutWhole};

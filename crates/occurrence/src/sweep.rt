@@ -9,6 +9,8 @@ use super::parts::Parts;
 use pool::fields::{EXPR_DEPTH, EXPR_LOOSE};
 use pool::words::Words;
 
+// The words and the lowest bits stand in two arrays, `sets` and `above`: as one of pairs they would take 16 bytes a row for 9, all to be cleared.
+
 // What a table has of a part.
 fn entry_at<T: Copy>(table: &[T], part: Option<usize>, none: T) -> T
     ensures { result ≡ entry_at none table.now (part_of part) }

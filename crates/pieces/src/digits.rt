@@ -1,4 +1,4 @@
-// Numbers in digits.
+// Numbers in digits, one byte after the other: std's printing would have to go through a buffer of its own, as a text is one row.
 ghost use Rattle.std.specs.Prelude.{◌≡◌, ◌+◌, ◌%◌};
 ghost use Rattle.document.specs.Sink.{put_bytes, emit};
 ghost use Rattle.document.specs.Leaves.{Leaves};

@@ -46,7 +46,7 @@ pub fn end_tile(sink: &mut Sink<'_>)
     sink.put_join();
 }
 
-// The brackets of a binder by its style.
+// The brackets of a binder by its style: constant tables indexed by it, a form that document 01 names.
 const OPENING: [&[u8]; 4] = [b"(", b"{", b"{{", b"["];
 
 const CLOSING: [&[u8]; 4] = [b")", b"}", b"}}", b"]"];

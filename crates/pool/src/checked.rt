@@ -1,4 +1,4 @@
-// A pool that was checked: every row keeps its rules.
+// A pool that was checked: every row keeps its rules. It has the fields of a `Pool` itself, so that a row is read as there.
 ghost use Rattle.std.specs.Prelude.{◌≡◌, ◌<◌};
 ghost use Rattle.pool.specs.Areas.{over};
 ghost use Rattle.pool.specs.Sound.{Sound};

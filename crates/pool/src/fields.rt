@@ -1,4 +1,4 @@
-// The words of each table's rows by name.
+// The words of each table's rows by name: places of words that C lends, so numbers.
 
 // A string's.
 pub const STRING_OFFSET: usize = 0;

@@ -1,6 +1,9 @@
 // The kinds of the rows of each table, as document 01 numbers them, and the styles of binders.
 ghost use Rattle.pool.specs.Codes.{DeclarsKind, ExprsKind, LevelsKind, NamesKind, StylesKind};
 
+use std::error::Error;
+use std::fmt;
+
 #[derive(Clone, Copy, Debug, PartialEq, Eq)]
 pub enum NameKind {
     Anonymous,
@@ -54,6 +57,14 @@ pub enum DeclarKind {
 // A word that stands for no kind of its table.
 #[derive(Clone, Copy, Debug, PartialEq, Eq)]
 pub struct UnknownKind(pub usize);
+
+impl fmt::Display for UnknownKind {
+    fn fmt<W: fmt::Write>(&self, f: &mut fmt::Formatter<W>) -> fmt::Result {
+        write!(f, "{} stands for no kind", self.0)
+    }
+}
+
+impl Error for UnknownKind {}
 
 impl TryFrom<usize> for NameKind {
     type Error = UnknownKind;

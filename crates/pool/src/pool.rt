@@ -1,6 +1,7 @@
 // A pool as it is given: its bytes, and its words with their tables.
-ghost use Rattle.std.specs.Prelude.{◌≡◌};
+ghost use Rattle.std.specs.Prelude.{◌≡◌, List, ℕ};
 ghost use Rattle.pool.specs.Tables.{string_at};
+ghost use Rattle.pool.specs.Areas.{over};
 ghost use Rattle.pool.specs.Views.{read};
 
 use crate::fields::{STRING_LENGTH, STRING_OFFSET};
@@ -25,15 +26,15 @@ impl<'a> Pool<'a> {
             words: Words::of(words),
         }
     }
+}
 
-    // The bytes of string row r; what lies past the area is left out.
-    pub fn string_at(&self, r: usize) -> &'a [u8]
-        ensures { result.now ≡ string_at (read self.now) r }
-    {
-        let offset = self.names.string(r, STRING_OFFSET);
-        let size = self.names.string(r, STRING_LENGTH);
-        let from = offset.min(self.bytes.len());
-        let to = (offset + size).min(self.bytes.len());
-        &self.bytes[from..to]
-    }
+// The bytes of string row r; what lies past the area is left out. The bytes alone have to live as long as the part, so they are lent apart.
+pub fn string_at<'a>(bytes: &'a [u8], names: &Names<'_>, r: usize) -> &'a [u8]
+    ensures { (ws : List ℕ) → result.now ≡ string_at (over bytes.now names.now.words.now ws) r }
+{
+    let offset = names.string(r, STRING_OFFSET);
+    let size = names.string(r, STRING_LENGTH);
+    let from = offset.min(bytes.len());
+    let to = (offset + size).min(bytes.len());
+    &bytes[from..to]
 }

@@ -12,9 +12,9 @@ ghost use Rattle.binders.specs.Asked.{Asked, InChain};
 ghost use Rattle.binders.specs.Steps.{binder_kind, chain_length, first_binder};
 ghost use Rattle.pretty_printer.specs.Parts.{row_in, chain_part, run_part, groups_part, let_head, let_body};
 
-use binders::chain::{chain_length, is_binder, push_chain};
+use binders::chain::{chain_length, is_binder_at, push_chain};
 use binders::group::{group_end, pp_names};
-use binders::leaves::{is_leaf, pp_leaf};
+use binders::leaves::{is_leaf_at, pp_leaf};
 use binders::printer::Printer;
 use binders::runs::{is_arrow, is_pi, level_of, part_end};
 use binders::spine::spine_of;
@@ -63,7 +63,7 @@ fn pp_inside(p: &Printer<'_>, sink: &mut Sink<'_>, k: &Stack, scope: usize, r: u
     requires { (Asked (pool_of p.now) k.now scope r) × (outer ≤ 1024) }
     ensures { Leaves sink.old sink.new (emit (under outer (row_in (options_of p.now) (pool_of p.now) k.now scope r))) }
 {
-    if is_leaf(&p.pool.words, r) {
+    if is_leaf_at(&p.pool.words, r) {
         return pp_leaf(p, sink, r);
     }
     pp_expr(p, sink, *k, scope, r, outer)
@@ -187,7 +187,7 @@ pub fn pp_tail(
     ensures { Leaves sink.old sink.new (emit (under outer (chain_part (options_of p.now) (pool_of p.now) k scope m
         (expr_at (pool_of p.now) r)))) }
 {
-    if is_binder(&p.pool.words, r) {
+    if is_binder_at(&p.pool.words, r) {
         return pp_binders(p, sink, k, scope, m, r, outer);
     }
     pp_expr(p, sink, k, scope, r, outer)

@@ -10,7 +10,7 @@ use std::io::Read;
 #[cfg(test)]
 mod tests;
 
-// Reads until the area is full or the input ends, and returns how many bytes there were.
+// Reads until the area is full or the input ends, and returns how many bytes there were. Std's `read_to_end` would allocate.
 pub fn read_full(input: &mut impl Read, area: &mut [u8]) -> io::Result<usize>
     ensures { IfOk result (λ n. n ≤ length area.new) }
 {

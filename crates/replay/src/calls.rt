@@ -1,6 +1,7 @@
 // One call, and whether its answer and its areas are as wanted.
 use crate::areas::{Areas, Lent};
 use crate::input::Pool;
+use crate::record;
 use crate::record::{Ask, Call, Head, Reply};
 use layout::Counts;
 use lister::{PrintError, Source};
@@ -9,10 +10,10 @@ use pool_check::PoolError;
 // What check says.
 fn of_pool(error: PoolError) -> Reply {
     match error {
-        PoolError::Words => Reply::refused(1, 0),
-        PoolError::Limit => Reply::refused(2, 0),
-        PoolError::Strings { row } => Reply::refused(3, row),
-        PoolError::Rows { row } => Reply::refused(4, row),
+        PoolError::Words => record::refused(1, 0),
+        PoolError::Limit => record::refused(2, 0),
+        PoolError::Strings { row } => record::refused(3, row),
+        PoolError::Rows { row } => record::refused(4, row),
     }
 }
 
@@ -20,27 +21,20 @@ fn of_pool(error: PoolError) -> Reply {
 fn refused(error: PrintError) -> Reply {
     match error {
         PrintError::Pool { error } => of_pool(error),
-        PrintError::Root => Reply::refused(5, 0),
-        PrintError::Size => Reply::refused(6, 0),
-        PrintError::Names { row } => Reply::refused(7, row),
-        PrintError::Document { rows } => Reply::refused(8, rows),
-        PrintError::RowArea { rows } => Reply::refused(20, rows),
-        PrintError::TextArea { rows } => Reply::refused(21, rows),
-        PrintError::Listing => Reply::refused(22, 0),
+        PrintError::Root => record::refused(5, 0),
+        PrintError::Size => record::refused(6, 0),
+        PrintError::Names { row } => record::refused(7, row),
+        PrintError::Document { rows } => record::refused(8, rows),
+        PrintError::RowArea { rows } => record::refused(20, rows),
+        PrintError::TextArea { rows } => record::refused(21, rows),
+        PrintError::Listing => record::refused(22, 0),
     }
 }
 
 // What a print says.
 fn reply_of(answer: Result<Counts, PrintError>) -> Reply {
     match answer {
-        Ok(counts) => Reply::Done {
-            rows: counts.rows,
-            text: counts.text,
-            length: counts.length,
-            lines: counts.lines,
-            longest: counts.longest,
-            tests: counts.tests,
-        },
+        Ok(counts) => Ok(counts),
         Err(error) => refused(error),
     }
 }

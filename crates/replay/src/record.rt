@@ -1,4 +1,5 @@
 // What the record of a print says of each call that is made of it; differential/README.md has the format.
+use layout::Counts;
 use lister::Root;
 use records::{bytes, field, word};
 
@@ -66,29 +67,18 @@ pub const AMPLE: Lengths = Lengths {
     listing: 65536,
 };
 
-// What a print answers.
+// 01's number of a refusal, and its place.
 #[derive(Clone, Copy, PartialEq, Eq)]
-pub enum Reply {
-    // The six counts of a success.
-    Done {
-        rows: usize,
-        text: usize,
-        length: usize,
-        lines: usize,
-        longest: usize,
-        tests: usize,
-    },
-    // 01's number of a refusal, and its place.
-    Refused {
-        number: usize,
-        place: usize,
-    },
+pub struct Refused {
+    pub number: usize,
+    pub place: usize,
 }
 
-impl Reply {
-    pub fn refused(number: usize, place: usize) -> Reply {
-        Reply::Refused { number, place }
-    }
+// What a print answers.
+pub type Reply = Result<Counts, Refused>;
+
+pub fn refused(number: usize, place: usize) -> Reply {
+    Err(Refused { number, place })
 }
 
 // The words of a record's head and of n bytes after it: where the words of a pool start, and the document rows of a print.
@@ -221,19 +211,19 @@ impl Head {
 
     pub fn wanted(&self, call: Call) -> Reply {
         match call {
-            Call::Ample | Call::Exact => Reply::Done {
+            Call::Ample | Call::Exact => Ok(Counts {
                 rows: self.rows as usize,
                 text: self.text as usize,
                 length: self.length as usize,
                 lines: self.lines as usize,
                 longest: self.longest as usize,
                 tests: self.tests as usize,
-            },
-            Call::TextShort => Reply::refused(21, self.last_text as usize),
-            Call::RowsShort => Reply::refused(20, self.rows.saturating_sub(1) as usize),
-            Call::ListingShort => Reply::refused(22, 0),
-            Call::NoExpression | Call::NoDeclaration => Reply::refused(5, 0),
-            Call::IndentOver | Call::WidthOver => Reply::refused(6, 0),
+            }),
+            Call::TextShort => refused(21, self.last_text as usize),
+            Call::RowsShort => refused(20, self.rows.saturating_sub(1) as usize),
+            Call::ListingShort => refused(22, 0),
+            Call::NoExpression | Call::NoDeclaration => refused(5, 0),
+            Call::IndentOver | Call::WidthOver => refused(6, 0),
         }
     }
 }

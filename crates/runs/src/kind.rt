@@ -1,4 +1,4 @@
-// The two prints.
+// The two prints. A `Root` has a row, which two runs of one kind do not share.
 ghost use Rattle.std.specs.Prelude.{◌≡◌};
 ghost use Rattle.runs.specs.Calls.{root_of};
 

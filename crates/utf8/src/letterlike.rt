@@ -7,7 +7,7 @@ ghost use Rattle.utf8.specs.Letterlike.{not_greek, is_start, is_rest, letterlike
 use crate::scan::Scan;
 use std::ops::Range;
 
-// The numbers of the ranges.
+// The numbers of the ranges, which stand in a constant table by number: document 01 names this form.
 const GREEK0: usize = 0;
 
 const GREEK1: usize = 1;
@@ -104,6 +104,7 @@ fn may_stand(first: bool, c: u32) -> bool
     }
 }
 
+// By a scan of its own, with a flag for the first character: it is defined for bytes that are no UTF-8 too, which std's `chars` is not.
 fn is_letterlike(s: &[u8]) -> bool
     ensures { result ≡ letterlike (points s.now) }
 {
