@@ -57,9 +57,8 @@ fn lifted_rows(
 {
     let mut below = n;
     while let Some(a) = highest(cur, below) {
-        let row = lifted_row(pool, cur, next, owed, d, a, c);
-        if row != Some(true) {
-            return row;
+        if !lifted_row(pool, cur, next, owed, d, a, c)? {
+            return Some(false);
         }
         below = a;
     }
@@ -83,13 +82,11 @@ fn levels(
     let mut c = 0;
     // No `for`: what is owed ends it, which each turn changes.
     while c < depth && highest(cur, n).is_some() {
-        let level = lifted_rows(pool, cur, next, owed, d, n, c);
-        if level != Some(true) {
-            return level;
+        if !lifted_rows(pool, cur, next, owed, d, n, c)? {
+            return Some(false);
         }
-        let deeper = lifted_rows(pool, next, cur, owed, d, n, c + 1);
-        if deeper != Some(true) {
-            return deeper;
+        if !lifted_rows(pool, next, cur, owed, d, n, c + 1)? {
+            return Some(false);
         }
         c += 2;
     }
@@ -120,9 +117,8 @@ fn plain_rows(pool: &CheckedPool<'_>, owed: &mut [u32], n: usize) -> Option<bool
 {
     let mut below = n;
     while let Some(x) = highest(owed, below) {
-        let row = plain_row(pool, owed, x);
-        if row != Some(true) {
-            return row;
+        if !plain_row(pool, owed, x)? {
+            return Some(false);
         }
         below = x;
     }
@@ -146,9 +142,8 @@ fn swept(
         return None;
     }
     let depth = pool.words.expr(a, EXPR_DEPTH);
-    let lifted = levels(pool, cur, next, owed, d, a + 1, depth);
-    if lifted != Some(true) {
-        return lifted;
+    if !levels(pool, cur, next, owed, d, a + 1, depth)? {
+        return Some(false);
     }
     plain_rows(pool, owed, a.max(b) + 1)
 }
