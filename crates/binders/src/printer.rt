@@ -4,7 +4,8 @@ ghost use Rattle.pool.specs.Tables.{N};
 
 use pool::checked::CheckedPool;
 
-// A pool that was checked, each of whose name rows fits 16 bits, and the indent of a nest.
+// A pool that was checked, each of whose name rows fits 16 bits, and the indent of a nest. The sink, which is lent to be changed, the stack,
+// which is copied, and the scope, another one at each call, stay parameters.
 #[derive(Clone, Copy)]
 pub struct Printer<'a> {
     pub pool: CheckedPool<'a>,

@@ -27,7 +27,7 @@ pub fn word_at(rows: &[u32], r: usize, k: usize) -> usize
     rows.get(i).map_or(0, |w| *w as usize)
 }
 
-// The same of a row that lies in the area, without a test.
+// The same of a row that lies in the area, without a test, for layout's speed. Each reader says so: a type of such rows would hold the area too.
 pub fn word_in(rows: &[u32], r: usize, k: usize) -> usize
     requires { (k < 7) × (r * 7 + 7 ≤ length rows.now) }
     ensures { (result ≡ word rows.now r k) × (result < 4294967296) }

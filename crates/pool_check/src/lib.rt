@@ -66,7 +66,7 @@ fn limits_ok(pool: &Pool<'_>) -> bool
     names.strings <= 65536 && (names.names <= 65536 && rest)
 }
 
-// The tables from the levels on.
+// The tables from the levels on, in 01's order. A return for each, so that each is a goal of its own.
 fn check_words(pool: &Pool<'_>) -> Result<(), PoolError>
     requires { Small (read pool.now) }
     ensures { result ≡ words_verdict (read pool.now) }
