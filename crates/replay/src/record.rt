@@ -69,16 +69,16 @@ pub const AMPLE: Lengths = Lengths {
 
 // 01's number of a refusal, and its place.
 #[derive(Clone, Copy, PartialEq, Eq)]
-pub struct Refused {
+pub struct Refusal {
     pub number: usize,
     pub place: usize,
 }
 
 // What a print answers.
-pub type Reply = Result<Counts, Refused>;
+pub type Reply = Result<Counts, Refusal>;
 
 pub fn refused(number: usize, place: usize) -> Reply {
-    Err(Refused { number, place })
+    Err(Refusal { number, place })
 }
 
 // The words of a record's head and of n bytes after it: where the words of a pool start, and the document rows of a print.
