@@ -152,7 +152,7 @@ fn pass_levels<const N: usize>(pool: &CheckedPool<'_>, a: usize, b: usize) -> Op
 }
 
 // Most levels are compared in few steps; else one pass over the rows tells. The array is as long as the pool asks, so that a small one
-// clears little.
+// clears little. Not by `or_else`, as in `difference::trees::sweep_all`.
 pub fn same_level(pool: &CheckedPool<'_>, a: usize, b: usize) -> bool
     requires { (a < L (lent pool.now).words) × (b < L (lent pool.now).words) }
     ensures { result ≡ levels_same (lent pool.now) a b }

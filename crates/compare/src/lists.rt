@@ -68,6 +68,7 @@ fn levels(pool: &CheckedPool<'_>, x: usize, y: usize, n: usize) -> bool
     requires { TwoLists (lent pool.now) x y n }
     ensures { result ≡ lists_same (lent pool.now) x y n }
 {
+    // By `for`: `all` was tried, and the proof did not close, neither of its answer nor of what its closure asks.
     for i in 0..n {
         let level_x = pool.words.entry(x + i);
         let level_y = pool.words.entry(y + i);
@@ -79,7 +80,7 @@ fn levels(pool: &CheckedPool<'_>, x: usize, y: usize, n: usize) -> bool
 }
 
 // Most lists are compared in few steps, a long one in as many as it has levels; the rest by a pass, with an array as long as the pool asks,
-// so that a small one clears little; one by one where there is no room for one.
+// so that a small one clears little; one by one where there is no room for one. Not by `or_else`, as in `difference::trees::sweep_all`.
 fn same_entries(pool: &CheckedPool<'_>, x: usize, y: usize, n: usize) -> bool
     requires { TwoLists (lent pool.now) x y n }
     ensures { result ≡ lists_same (lent pool.now) x y n }

@@ -267,7 +267,7 @@ pub fn main_def(p: &Printer<'_>, sink: &mut Sink<'_>, r: usize)
     def_parts(p, sink, k, type_row, value)
 }
 
-// Another declaration.
+// Another declaration. It begins as `main_def` does: one function for that would answer an `Option<Stack>`, one more copy of 4 KB.
 pub fn main_axiom(p: &Printer<'_>, sink: &mut Sink<'_>, r: usize)
     requires { Declared (pool_of p.now) r }
     ensures { Leaves sink.old sink.new (emit (main_axiom (options_of p.now) (declar_word (pool_of p.now).words r 0)

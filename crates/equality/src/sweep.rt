@@ -80,7 +80,7 @@ fn levels(
         (Owes (tree_at (lent pool.now)) (tree_at (lent pool.now)) owed.new) result }
 {
     let mut c = 0;
-    // No `for`: what is owed ends it, which each turn changes.
+    // No `for`: it would go in steps of two and break where nothing is owed, which is no plainer.
     while c < depth && highest(cur, n).is_some() {
         if !lifted_rows(pool, cur, next, owed, d, n, c)? {
             return Some(false);

@@ -1,4 +1,4 @@
-// The recursive layout over a document's postorder rows: the row number falls from parent to child.
+// The recursive layout over a document's postorder rows, a form that document 01 names: the row number falls from parent to child.
 ghost use Rattle.std.specs.Prelude.{◌≡◌, ◌+◌, ◌*◌, ◌<◌, ◌≤◌, length};
 ghost use Rattle.document.specs.Rows.{word};
 ghost use Rattle.layout.specs.Layout.{textᵖ, placed};

@@ -37,6 +37,7 @@ fn finish(
         text,
         total: written.text,
     };
+    // Not by `map_err`: the check takes no fact from its closure.
     match layout_accepted(&document, width, listing) {
         Ok(counts) => Ok(counts),
         Err(_) => Err(PrintError::Listing),

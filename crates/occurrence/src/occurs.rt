@@ -122,7 +122,7 @@ fn sweep_all(pool: &CheckedPool<'_>, r: usize, i: usize) -> bool
 }
 
 // Most questions are answered in few steps. Where they are not, sixteen times as many are tried once more, if a sweep would go over more
-// rows than were tried.
+// rows than were tried. Not by `or_else`, as in `difference::trees::sweep_all`.
 pub fn has_var(pool: &CheckedPool<'_>, r: usize, i: usize) -> bool
     requires { r < E (lent pool.now).words }
     ensures { result ≡ occurs i (expr_at (lent pool.now) r) }

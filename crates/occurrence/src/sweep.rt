@@ -114,7 +114,7 @@ fn answered(words: &Words<'_>, sets: &mut [u64], above: &mut [u8], r: usize, i: 
     sets[r] % 2 == 1
 }
 
-// The same with arrays of N rows. They stay in a function of their own: whoever asks pays for them only where it comes to a sweep.
+// The same with arrays of N rows: their size is fixed, as nothing is allocated. They stay in a function of their own: whoever asks pays for them only where it comes to a sweep.
 #[inline(never)]
 pub fn swept<const N: usize>(words: &Words<'_>, r: usize, i: usize) -> bool
     requires { (r < E words.now.words.now) × (r < N) × (N < 65537) × (i < 4294967296) }

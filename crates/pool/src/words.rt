@@ -15,7 +15,8 @@ pub struct Words<'a> {
     ghost found: { WordsOf words.now tables },
 }
 
-// The word k of a row of each table; 0 past the end.
+// The word k of a row of each table; 0 past the end. That a row is below its table's count stands in each contract that needs it: a type of
+// such rows would hold the words too.
 #[tactic(auto, unfolding(crate::specs::Tables::level_word, crate::specs::Tables::list_word, crate::specs::Tables::list_entry, crate::specs::Tables::expr_word, crate::specs::Tables::declar_word))]
 impl<'a> Words<'a> {
     pub fn of(words: &'a [u32]) -> Words<'a>

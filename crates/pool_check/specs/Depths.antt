@@ -1,4 +1,5 @@
--- The tables whose rows have a depth of at most 64: the names and the levels.
+-- The tables whose rows have a depth of at most 64: the names and the levels. The laws are proved in pool/proofs: an implementation gives
+-- them by name, so they stand here.
 use Rattle.std.specs.Prelude.{◌≡◌, ℕ, ◌+◌, ◌<◌, Bool, true, ◌&&◌, List, Option, get_or, leb}
 use Rattle.std.specs.Bool.{then_some}
 use Rattle.pool.specs.Tables.{Pool, N, L, name_word, level_word}

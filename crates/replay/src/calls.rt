@@ -33,10 +33,7 @@ fn refused(error: PrintError) -> Reply {
 
 // What a print says.
 fn reply_of(answer: Result<Counts, PrintError>) -> Reply {
-    match answer {
-        Ok(counts) => Ok(counts),
-        Err(error) => refused(error),
-    }
+    answer.or_else(|error| refused(error))
 }
 
 fn print(bytes: &[u8], words: &[u32], ask: Ask, lent: &mut Lent<'_>) -> Result<Counts, PrintError> {
