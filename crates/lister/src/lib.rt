@@ -63,8 +63,8 @@ fn has_root(pool: &CheckedPool<'_>, root: Root) -> bool
     }
 }
 
-// Prints a root: its document into `rows` and `text`, its listing into `listing`. The three areas are lent one by one: of a struct of them the
-// check asks for a whole proof by hand in `finish`, which reads two while it lends the third.
+// Prints a root: its document into `rows` and `text`, its listing into `listing`. The three areas are lent one by one: of a struct of them
+// the check asks for a whole proof by hand in `finish`, which reads two while it lends the third.
 pub fn print(
     source: Source<'_>,
     root: Root,

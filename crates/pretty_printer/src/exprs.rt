@@ -1,6 +1,6 @@
 // Expressions: one call cycle. Each call goes to a lower row, or on the same row from what follows a part of a chain to a part or an
 // expression, from an expression to a chain, from a chain to its parts, and from a part to its groups. The stack of names goes by
-// value to each printer that 01 names and to a let's body, and is lent to the parts of one printer, which would but copy it once more.
+// value, but to `pp_part` and `pp_inside`: these are inlined, and stand in no frame that would hold a copy.
 ghost use Rattle.std.specs.Prelude.{◌≡◌, true, ◌<◌, ◌≤◌};
 ghost use Rattle.pool.specs.Tables.{expr_word};
 ghost use Rattle.binders.specs.Options.{options_of, pool_of};
