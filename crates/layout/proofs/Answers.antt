@@ -9,6 +9,7 @@ use mathlib.Core.Path.{◌≡◌, refl, sym, ap, ap₂, ◌∙◌, subst}
 use lib.ListN.{length}
 use lib.Dec.{ltb}
 use borrow.Author.Tests.{lt-ltb, le-ltb, ltb-false}
+use Rattle.document.specs.Doc.{Doc}
 use Rattle.document.specs.Rows.{fault, counts_ok, Accepted}
 use Rattle.document.proofs.Faults.{fault_bound, found_some, fault_none, accepted_counts, accepted_sound}
 use Rattle.layout.specs.declared.cursor.Cursor.{Cursor}
@@ -18,21 +19,23 @@ use Rattle.layout.specs.declared.LayoutError.TheVariants.{Document, Width, Listi
 use Rattle.layout.specs.declared.listing.Listing as listings
 use Rattle.layout.specs.Frames.{Begins, LaysOut}
 use Rattle.layout.specs.Layout.{Piece, textᵖ, blankᵖ, newlineᵖ, testᵖ, after, run, start, pieces}
-use Rattle.layout.specs.Listing.{bytes_of, broken_places, lines, longest_row, tests_in}
+use Rattle.layout.specs.Listing.{bytes_of, broken_places, lines, longest_row}
+use Rattle.layout.specs.Groups.{fit_tests}
 use Rattle.layout.specs.Call.{counts_of, untouched, listed, doc_of, outcome}
 use Rattle.layout.specs.Contract.{Emitteds, Given, Room, LaidOut, admission, counted, reported}
 use Rattle.layout.proofs.Painting.{length-paint}
 use Rattle.layout.proofs.Pieces.{run_position}
+use Rattle.layout.proofs.GroupLaws.{tests_are_groups}
 
 -- ---- what the cursor has counted
 
-run_lines_tests : (w : ℕ) (c : Cursor) (ps : List Piece) → ((run w c ps).lines ≡ c.lines + broken_places ps) × ((run w c ps).tests ≡ c.tests + tests_in ps)
-unfolding run broken_places tests_in
-run_lines_tests w c [] = (sym (add-zero c.lines), sym (add-zero c.tests))
-run_lines_tests w c (textᵖ s ∷ ps) = run_lines_tests w (after w c (textᵖ s)) ps
-run_lines_tests w c (blankᵖ k ∷ ps) = run_lines_tests w (after w c (blankᵖ k)) ps
-run_lines_tests w c (newlineᵖ b k ∷ ps) = let h = run_lines_tests w (after w c (newlineᵖ b k)) ps in (omega (arith, h.0), h.1)
-run_lines_tests w c (testᵖ b ∷ ps) = let h = run_lines_tests w (after w c (testᵖ b)) ps in (h.0, omega (arith, h.1))
+run_lines : (w : ℕ) (c : Cursor) (ps : List Piece) → (run w c ps).lines ≡ c.lines + broken_places ps
+unfolding run broken_places
+run_lines w c [] = sym (add-zero c.lines)
+run_lines w c (textᵖ s ∷ ps) = run_lines w (after w c (textᵖ s)) ps
+run_lines w c (blankᵖ k ∷ ps) = run_lines w (after w c (blankᵖ k)) ps
+run_lines w c (newlineᵖ b k ∷ ps) = let h = run_lines w (after w c (newlineᵖ b k)) ps in omega arith
+run_lines w c (testᵖ b ∷ ps) = run_lines w (after w c (testᵖ b)) ps
 
 longest_least : (n : ℕ) (ps : List Piece) → n ≤ longest_row n ps
 unfolding longest_row
@@ -85,30 +88,32 @@ module _ (rows : List ℕ) (count : ℕ) (texts : List ℕ) (total width : ℕ) 
   unfolding pieces
   whole_emitted v l l' laid = laid.laid count (let p = (accepted_counts accepted).pos in omega arith)
 
--- once all pieces are emitted, what is reported is what is listed
-module _ (width : ℕ) (ps : List Piece) (v : Cursor) (l l' : List ℕ) (emitted : Emitteds width ps (start width) v l l') (count total : ℕ) where
+-- once all pieces of a document are emitted, what is reported is what is listed
+module _ (width : ℕ) (d : Doc) (v : Cursor) (l l' : List ℕ) (emitted : Emitteds width (pieces width d) (start width) v l l') (count total : ℕ) where
+  abbrev ps : List Piece
+  ps = pieces width d
+
   position_is : v.position ≡ length (bytes_of ps)
   position_is = ap (λ (x : Cursor). x.position) emitted.cursor ∙ run_position width (start width) ps ∙ zero-add (length (bytes_of ps))
 
   length_is : length l' ≡ length l
   length_is = ap length emitted.bytes ∙ length-paint l 0 (bytes_of ps)
 
-  counts_are : counted v count total ≡ counts_of count total ps
+  counts_are : counted v count total ≡ counts_of count total width d
   counts_are =
-      let k = run_lines_tests width (start width) ps in
       let a = position_is in
-      let n : v.lines ≡ lines ps = ap (λ (x : Cursor). x.lines) emitted.cursor ∙ k.0 ∙ omega arith in
+      let n : v.lines ≡ lines ps = ap (λ (x : Cursor). x.lines) emitted.cursor ∙ run_lines width (start width) ps ∙ omega arith in
       let o : v.longest ≡ longest_row 0 ps =
       ap (λ (x : Cursor). x.longest) emitted.cursor ∙ run_longest width (start width) 0 ps (omega arith) (omega arith) ∙ omega arith in
-      let t : v.tests ≡ tests_in ps = ap (λ (x : Cursor). x.tests) emitted.cursor ∙ k.1 ∙ zero-add (tests_in ps) in
+      let t : v.tests ≡ fit_tests width d = ap (λ (x : Cursor). x.tests) emitted.cursor ∙ tests_are_groups width d in
       rw (n, o, t, a)
 
-  answer_is : reported v count total l' ≡ cond (ltb (length l) (length (bytes_of ps))) (Err Listing) (Ok (counts_of count total ps))
+  answer_is : reported v count total l' ≡ cond (ltb (length l) (length (bytes_of ps))) (Err Listing) (Ok (counts_of count total width d))
   answer_is =
       ap₂ (λ (x y : ℕ). cond (ltb x y) (Err Listing) (Ok (counted v count total))) length_is position_is
       ∙ ap (λ (x : Counts). cond (ltb (length l) (length (bytes_of ps))) (Err Listing) (Ok x)) counts_are
 
-  pub reported-listed : (a : Result Counts LayoutError) → a ≡ reported v count total l' → record { answer = a; listing = l' } ≡ listed count total ps l
+  pub reported-listed : (a : Result Counts LayoutError) → a ≡ reported v count total l' → record { answer = a; listing = l' } ≡ listed count total width d l
   unfolding listed
   reported-listed a e = ap₂ (λ (x : Result Counts LayoutError) (y : List ℕ). record { answer = x; listing = y }) (e ∙ answer_is) emitted.bytes
 
@@ -128,10 +133,10 @@ module _ {rows : List ℕ} {count : ℕ} {texts : List ℕ} {total width : ℕ} 
 
   pub begun_listed : (m : listings.Listing) {a : Result Counts LayoutError} {l' : List ℕ}
       → Emitteds s.width (pieces s.width (doc_of rows count texts)) (start s.width) m.cursor s.area.now m.area.now
-      → a ≡ reported m.cursor count total m.area.now → l' ≡ m.area.now → record { answer = a; listing = l' } ≡ listed count total (pieces width (doc_of rows count texts)) area.now
+      → a ≡ reported m.cursor count total m.area.now → l' ≡ m.area.now → record { answer = a; listing = l' } ≡ listed count total width (doc_of rows count texts) area.now
   begun_listed m {a} {l'} emitted reports same =
       let there = rw (begins.width_is, begins.bytes) at emitted in
-      rw same (reported-listed width (pieces width (doc_of rows count texts)) m.cursor area.now m.area.now there count total a reports)
+      rw same (reported-listed width (doc_of rows count texts) m.cursor area.now m.area.now there count total a reports)
 
 -- ---- `check_given`, `layout`
 
@@ -168,7 +173,7 @@ module _ (rows : List ℕ) (count : ℕ) (texts : List ℕ) (total width : ℕ) 
       unfolding admission
       admission_none h = sym (rw (ok, whole_is, le-ltb 65535 width h))
 
-      pub answer_listed : (l : List ℕ) → width ≤ 65535 → listed count total (pieces width (doc_of rows count texts)) l ≡ outcome rows count texts total width l
+      pub answer_listed : (l : List ℕ) → width ≤ 65535 → listed count total width (doc_of rows count texts) l ≡ outcome rows count texts total width l
       unfolding outcome
       answer_listed l h = sym (rw (ok, whole_is, le-ltb 65535 width h))
 

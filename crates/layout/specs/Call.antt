@@ -6,7 +6,8 @@ use Rattle.layout.specs.declared.Counts.{Counts}
 use Rattle.layout.specs.declared.LayoutError.{LayoutError}
 use Rattle.layout.specs.declared.LayoutError.TheVariants.{Document, Width, Listing}
 use Rattle.layout.specs.Layout.{Piece, pieces}
-use Rattle.layout.specs.Listing.{bytes_of, lines, longest_row, tests_in}
+use Rattle.layout.specs.Listing.{bytes_of, lines, longest_row}
+use Rattle.layout.specs.Groups.{fit_tests}
 use Rattle.layout.specs.Paint.{paint}
 
 -- the number of an answer, 0 for none: "9: a given document breaks a row rule, ..", "6: .. width over 65,535", "22: listing longer than
@@ -37,25 +38,27 @@ pub record Outcome : Type 0 where
 unfoldable pub untouched : Result Counts LayoutError → List ℕ → Outcome
 untouched answer area = record { answer = answer; listing = area }
 
--- "document rows, text bytes, listing length, lines .., longest row, and fit tests"
-abbrev pub counts_of : ℕ → ℕ → List Piece → Counts
-counts_of rows text ps =
+-- "document rows, text bytes, listing length, lines .., longest row, and fit tests": of a document of so many rows and text bytes, at a width
+abbrev pub counts_of : ℕ → ℕ → ℕ → Doc → Counts
+counts_of rows text width d =
+    let ps : List Piece = pieces width d in
     record {
       rows = rows;
       text = text;
       length = length (bytes_of ps);
       lines = lines ps;
       longest = longest_row 0 ps;
-      tests = tests_in ps;
+      tests = fit_tests width d;
     }
 
 -- a document of so many rows and text bytes is listed: "22: listing longer than its area"; "22 leaves .. in the listing area the first
 -- bytes of the full listing, as many as fit"; "no refusal or success touches the listing area past what was written"
-unfoldable pub listed : ℕ → ℕ → List Piece → List ℕ → Outcome
-listed rows text ps area =
+unfoldable pub listed : ℕ → ℕ → ℕ → Doc → List ℕ → Outcome
+listed rows text width d area =
+    let bytes : List ℕ = bytes_of (pieces width d) in
     record {
-      answer = cond (ltb (length area) (length (bytes_of ps))) (refusal 22 0) (Ok (counts_of rows text ps));
-      listing = paint area 0 (bytes_of ps);
+      answer = cond (ltb (length area) (length bytes)) (refusal 22 0) (Ok (counts_of rows text width d));
+      listing = paint area 0 bytes;
     }
 
 -- the document that so many rows and text bytes stand for
@@ -68,5 +71,5 @@ outcome rows count texts total width area =
     cond (counts_ok (length rows) count (length texts) total)
     (cond (ltb (fault rows total count) count) (untouched (refusal 9 (fault rows total count)) area)
     (cond (ltb 65535 width) (untouched (refusal 6 0) area)
-    (listed count total (pieces width (doc_of rows count texts)) area)))
+    (listed count total width (doc_of rows count texts) area)))
     (untouched (refusal 9 0) area)

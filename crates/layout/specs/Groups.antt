@@ -16,7 +16,8 @@ pub record Groups : Type 0 where
   pub cursor : Cursor
 
 -- "A group not inside a flat one is flat exactly if position + flat size + distance .. is at most the row's end", which `fits` says; "a group
--- inside a flat one never fails it". The groups of a document in a nest, inside a flat group or not, from a cursor on.
+-- inside a flat one never fails it". The groups of a document in a nest, inside a flat group or not, from a cursor on, which
+-- counts no test here.
 unfoldable pub groups_from : ℕ → Doc → ℕ → Bool → ℕ → Cursor → Groups
 groups_from width (text s) n inside next c = record { groups = []; cursor = after width c (textᵖ s) }
 groups_from width (join a b) n inside next c =

@@ -10,8 +10,8 @@ pub data Piece : Type 0 where
   newlineᵖ : ℕ → ℕ → Piece
   testᵖ : Bool → Piece
 
--- ---- the row cursor: position and row's end decide what fits; lines, longest row and fit tests are only counted along, and `Listing` says
--- what is reported
+-- ---- the row cursor: position and row's end decide what fits; lines, longest row and fit tests are only counted along, and `Listing` and
+-- `Groups` say what is reported
 
 -- "Position is the number of bytes emitted so far." The cursor at a new position in the same row, which starts at end - width
 abbrev pub moved : ℕ → Cursor → ℕ → Cursor

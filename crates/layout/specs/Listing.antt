@@ -33,11 +33,3 @@ longest_row n (textᵖ s ∷ ps) = longest_row (n + length s) ps
 longest_row n (blankᵖ blank ∷ ps) = longest_row (n + blank) ps
 longest_row n (newlineᵖ blank spaces ∷ ps) = max n (longest_row spaces ps)
 longest_row n (testᵖ f ∷ ps) = longest_row n ps
-
--- "fit tests": the groups outside flat ones
-unfoldable pub tests_in : List Piece → ℕ
-tests_in [] = 0
-tests_in (textᵖ s ∷ ps) = tests_in ps
-tests_in (blankᵖ blank ∷ ps) = tests_in ps
-tests_in (newlineᵖ blank n ∷ ps) = tests_in ps
-tests_in (testᵖ f ∷ ps) = 1 + tests_in ps

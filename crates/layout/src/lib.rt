@@ -2,7 +2,6 @@
 #![tactic(auto)]
 
 ghost use Rattle.std.specs.Prelude.{◌≡◌, ◌≤◌};
-ghost use Rattle.layout.specs.Layout.{pieces};
 ghost use Rattle.layout.specs.Call.{doc_of, listed, outcome};
 ghost use Rattle.layout.specs.Contract.{admission, reported};
 ghost use Rattle.basics.specs.Lent.{was};
@@ -104,7 +103,7 @@ pub fn layout_accepted(
     listing: &mut [u8],
 ) -> Result<Counts, LayoutError>
     requires { width ≤ 65535 }
-    ensures { let d = document.now in Lists listing result (listed d.count d.total (pieces width (doc_of d.rows.now d.count d.text.now))) }
+    ensures { let d = document.now in Lists listing result (listed d.count d.total width (doc_of d.rows.now d.count d.text.now)) }
 {
     let rows = document.rows;
     let text = document.text;

@@ -7,12 +7,13 @@ use mathlib.Core.Path.{◌≡◌, refl, sym, ap, ap₂, ◌∙◌}
 use lib.ListN.{length, replicate}
 use lib.Dec.{ltb}
 use borrow.Author.Tests.{lt-ltb, le-ltb}
+use Rattle.document.specs.Doc.{Doc}
 use Rattle.document.specs.Rows.{Accepted, fault, counts_ok}
 use Rattle.document.proofs.Faults.{accepted_counts, accepted_sound}
 use Rattle.layout.specs.declared.Counts.{Counts}
 use Rattle.layout.specs.declared.LayoutError.{LayoutError}
 use Rattle.layout.specs.declared.LayoutError.TheVariants as errors
-use Rattle.layout.specs.Layout.{Piece, pieces}
+use Rattle.layout.specs.Layout.{pieces}
 use Rattle.layout.specs.Listing.{bytes_of}
 use Rattle.layout.specs.Call as first
 use Rattle.layout.specs.Call.{untouched, listed, doc_of, outcome, counts_of}
@@ -41,11 +42,11 @@ early_error rows count texts total width {e} q =
     by true false false p = cc
 
 -- what is listed is a success or 22, which come after 30
-listed_late : (rows text : ℕ) (ps : List Piece) (area : List ℕ) → before30 (listed rows text ps area).answer ≡ false
+listed_late : (rows text width : ℕ) (d : Doc) (area : List ℕ) → before30 (listed rows text width d area).answer ≡ false
 unfolding listed
-listed_late rows text ps area = by (ltb (length area) (length (bytes_of ps)))
+listed_late rows text width d area = by (ltb (length area) (length (bytes_of (pieces width d))))
   where
-    by : (b : Bool) → before30 (cond b (Err errors.Listing) (Ok (counts_of rows text ps))) ≡ false
+    by : (b : Bool) → before30 (cond b (Err errors.Listing) (Ok (counts_of rows text width d))) ≡ false
     by true = refl
     by false = refl
 
@@ -88,13 +89,13 @@ module _ (rows : List ℕ) (count : ℕ) (texts : List ℕ) (total width : ℕ) 
 
   module _ (accepted : Accepted rows count texts total) (narrow : width ≤ 65535) where
     abbrev whole : first.Outcome
-    whole = listed count total (pieces width (doc_of rows count texts)) area
+    whole = listed count total width (doc_of rows count texts) area
 
     is_first : whole ≡ outcome rows count texts total width area
     is_first = answer_listed rows count texts total width accepted.counts accepted.faultless area narrow
 
     late_answer : before30 whole.answer ≡ false
-    late_answer = listed_late count total (pieces width (doc_of rows count texts)) area
+    late_answer = listed_late count total width (doc_of rows count texts) area
 
     pub answer_30 : length pending < count * 3
         → record { answer = Err PendingArea; listing = area; pending = pending } ≡ outcome_pending rows count texts total width pending area

@@ -10,7 +10,8 @@ use Rattle.document.specs.Rows.{doc_at, node, fault, scan, whole, row_ok, text_b
 use Rattle.document.specs.Stored.{stored, own_row}
 use Rattle.layout.specs.declared.LayoutError.TheVariants as errors
 use Rattle.layout.specs.Layout.{pieces, layout, run}
-use Rattle.layout.specs.Listing.{bytes_of, broken_places, longest_row, tests_in}
+use Rattle.layout.specs.Listing.{bytes_of, broken_places, longest_row}
+use Rattle.layout.specs.Groups.{groups_from, outside}
 use Rattle.layout.specs.Paint.{paint}
 use Rattle.layout.specs.Call.{outcome, listed, untouched}
 use Rattle.layout_pending.specs.declared.PendingError.TheVariants.{Layout, PendingArea}
@@ -30,7 +31,7 @@ listed_and_cleared : laid 6 4 18 7
       pending = replicate 18 0;
     }
 unfolding outcome_pending with30 outcome listed untouched stored own_row text_bytes row_count flat_size first_break has_break doc_at node fault scan whole row_ok
-    text_before pieces layout run bytes_of broken_places longest_row tests_in paint
+    text_before pieces layout run bytes_of broken_places longest_row groups_from outside paint
 listed_and_cleared = refl
 
 cleared_past_the_entries : laid 6 4 20 5
@@ -40,7 +41,7 @@ cleared_past_the_entries : laid 6 4 20 5
       pending = replicate 20 0;
     }
 unfolding outcome_pending with30 outcome listed untouched stored own_row text_bytes row_count flat_size first_break has_break doc_at node fault scan whole row_ok
-    text_before pieces layout run bytes_of broken_places longest_row tests_in paint
+    text_before pieces layout run bytes_of broken_places longest_row groups_from outside paint
 cleared_past_the_entries = refl
 
 cleared_after_22 : laid 6 4 18 4
@@ -50,7 +51,7 @@ cleared_after_22 : laid 6 4 18 4
       pending = replicate 18 0;
     }
 unfolding outcome_pending with30 outcome listed untouched stored own_row text_bytes row_count flat_size first_break has_break doc_at node fault scan whole row_ok
-    text_before pieces layout run bytes_of broken_places longest_row tests_in paint
+    text_before pieces layout run bytes_of broken_places longest_row groups_from outside paint
 cleared_after_22 = refl
 
 one_word_short : laid 6 4 17 4
@@ -60,7 +61,7 @@ one_word_short : laid 6 4 17 4
       pending = replicate 17 7;
     }
 unfolding outcome_pending with30 outcome listed untouched stored own_row text_bytes row_count flat_size first_break has_break doc_at node fault scan whole row_ok
-    text_before pieces layout run bytes_of broken_places longest_row tests_in paint
+    text_before pieces layout run bytes_of broken_places longest_row groups_from outside paint
 one_word_short = refl
 
 width_before_pending : laid 6 65536 17 4
@@ -70,7 +71,7 @@ width_before_pending : laid 6 65536 17 4
       pending = replicate 17 7;
     }
 unfolding outcome_pending with30 outcome listed untouched stored own_row text_bytes row_count flat_size first_break has_break doc_at node fault scan whole row_ok
-    text_before pieces layout run bytes_of broken_places longest_row tests_in paint
+    text_before pieces layout run bytes_of broken_places longest_row groups_from outside paint
 width_before_pending = refl
 
 document_before_pending : laid 4 4 11 4
@@ -80,5 +81,5 @@ document_before_pending : laid 4 4 11 4
       pending = replicate 11 7;
     }
 unfolding outcome_pending with30 outcome listed untouched stored own_row text_bytes row_count flat_size first_break has_break doc_at node fault scan whole row_ok
-    text_before pieces layout run bytes_of broken_places longest_row tests_in paint
+    text_before pieces layout run bytes_of broken_places longest_row groups_from outside paint
 document_before_pending = refl

@@ -4,7 +4,6 @@
 ghost use Rattle.std.specs.Prelude.{◌≡◌, ◌*◌, ◌≤◌, length};
 ghost use Rattle.basics.specs.Lent.{was};
 ghost use Rattle.layout.specs.Call.{doc_of, listed};
-ghost use Rattle.layout.specs.Layout.{pieces};
 ghost use Rattle.layout_pending.specs.declared.PendingError.TheVariants as errors;
 ghost use Rattle.layout_pending.specs.Call.{outcome_pending};
 ghost use Rattle.layout_pending.specs.Frames.{ListsPending, ListsCleared};
@@ -56,7 +55,7 @@ fn layout_accepted(
 ) -> Result<Counts, LayoutError>
     requires { (width ≤ 65535) × (document.now.count * 3 ≤ length pending.old) }
     ensures { let d = document.now in
-        ListsCleared pending listing result (listed d.count d.total (pieces width (doc_of d.rows.now d.count d.text.now))) }
+        ListsCleared pending listing result (listed d.count d.total width (doc_of d.rows.now d.count d.text.now)) }
 {
     let last = lay_out_pending(
         document.rows,

@@ -16,7 +16,6 @@ use Rattle.document.proofs.ReadBack.{stored-length, stored_reads_back, stored_ac
 use Rattle.document.proofs.Steps.{Stopped, written_at}
 use Rattle.document.proofs.Emits.{Emitted, emit_of_going_walk, emit_of_stopped_walk}
 use Rattle.layout.specs.declared.LayoutError.{LayoutError}
-use Rattle.layout.specs.Layout.{pieces}
 use Rattle.layout.specs.Call as call
 use Rattle.std.specs.Prelude.{Option, Some, None, Result, Ok, Err}
 use Rattle.document.specs.declared.written.Stop.{Stop}
@@ -134,12 +133,12 @@ module _ (s : Written) (width : ℕ) (areas : Areas) where
   stop_finishes stop z e q rows text r t = rw (q, r, t, z)
 
   pub layout_finishes : s.stop ≡ None → (v : Answer) (listing : List ℕ) (l : Result Counts LayoutError)
-      → record { answer = l; listing = listing } ≡ call.listed s.rows s.text (pieces width (call.doc_of areas.rows s.rows areas.text)) areas.listing
+      → record { answer = l; listing = listing } ≡ call.listed s.rows s.text width (call.doc_of areas.rows s.rows areas.text) areas.listing
       → v ≡ of_laid l
       → record { answer = v; areas = record { rows = areas.rows; text = areas.text; listing = listing } } ≡ finished s width areas
   unfolding finished_by laid_out
   layout_finishes z v listing l e a =
-      let o : call.Outcome = call.listed s.rows s.text (pieces width (call.doc_of areas.rows s.rows areas.text)) areas.listing in
+      let o : call.Outcome = call.listed s.rows s.text width (call.doc_of areas.rows s.rows areas.text) areas.listing in
       let p : l ≡ o.answer = ap (λ (x : call.Outcome). x.answer) e in
       let q : listing ≡ o.listing = ap (λ (x : call.Outcome). x.listing) e in
       rw (z, a, p, q)

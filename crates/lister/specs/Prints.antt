@@ -3,7 +3,6 @@ use Rattle.std.specs.Prelude.{ℕ, ◌-◌, Bool, ◌&&◌, cond, List, ◌++◌
 use Rattle.document.specs.Doc.{Doc, text_bytes}
 use Rattle.document.specs.Stored.{stored}
 use Rattle.document.specs.Walk.{Marked, unmarked, Progress, going, stopped, walk}
-use Rattle.layout.specs.Layout.{pieces}
 use Rattle.layout.specs.Call as layout
 use Rattle.pool_check.specs.declared.PoolError.{PoolError}
 use Rattle.pool.specs.Tables.{Pool}
@@ -49,7 +48,7 @@ filled area l = l ++ replicate (length area - length l) 0
 -- "22 leaves the document standing"; what is reported and what is written in the listing area is what layout says of the document
 unfoldable pub document_listed : ℕ → ℕ → ℕ → Doc → Areas → Outcome
 document_listed rows bytes width d areas =
-    let o : layout.Outcome = layout.listed rows bytes (pieces width d) areas.listing in
+    let o : layout.Outcome = layout.listed rows bytes width d areas.listing in
     record {
       answer = of_laid o.answer;
       areas =

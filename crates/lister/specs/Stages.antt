@@ -3,7 +3,6 @@ use Rattle.std.specs.Prelude.{ℕ, ◌<◌, ◌≤◌, List, Option, Some, None,
 use Rattle.document.specs.declared.written.Stop.{Stop}
 use Rattle.document.specs.declared.written.Written.{Written}
 use Rattle.document.specs.Rows.{Accepted}
-use Rattle.layout.specs.Layout.{pieces}
 use Rattle.layout.specs.Call as call
 use Rattle.pool.specs.Tables.{Pool, N}
 use Rattle.declarations.specs.declared.listing.Root.{Root}
@@ -30,7 +29,7 @@ WalkEnds s width rows text = (s.stop ≡ None → Accepted rows s.rows text s.te
 unfoldable pub laid_out : Written → ℕ → Areas → Outcome
 laid_out s width areas =
     let o : call.Outcome =
-    call.listed s.rows s.text (pieces width (call.doc_of areas.rows s.rows areas.text)) areas.listing in
+    call.listed s.rows s.text width (call.doc_of areas.rows s.rows areas.text) areas.listing in
     record {
       answer = of_laid o.answer;
       areas = record { rows = areas.rows; text = areas.text; listing = o.listing };

@@ -14,7 +14,8 @@ use Rattle.document.specs.Rows.{node, doc_at, text_before, row_ok, Valid, scan, 
 use Rattle.document.specs.Stored.{own_row, stored, Fine}
 use Rattle.document.specs.Walk.{unmarked, text_events, events, step, steps, walk}
 use Rattle.layout.specs.Layout.{run, layout, pieces}
-use Rattle.layout.specs.Listing.{bytes_of, broken_places, longest_row, tests_in}
+use Rattle.layout.specs.Listing.{bytes_of, broken_places, longest_row}
+use Rattle.layout.specs.Groups.{groups_from, outside}
 use Rattle.layout.specs.Paint.{paint}
 use Rattle.layout.specs.Call.{untouched, listed, outcome}
 use Rattle.pieces.specs.Docs.{quoted, under, tile_from, tile, digits_to, digits, number_doc, opening, closing}
@@ -36,7 +37,7 @@ unfolding utf8_from utf8 points_from points is_start is_rest all_rest letterlike
     string_at name_kind level_kind expr_kind forget forgetᵈ name_depth level_depth depth loose lift occurs name_shape level_shape level_shapes shape same_shape name_node name_to name_at
     level_node level_to level_at levels_from list_at expr_node expr_to expr_at declar_at rising string_ok name_fields_ok name_ok level_fields_ok level_ok list_ok list_entry_ok all_digits natural
     unused expr_fields_ok depth_by loose_by expr_ok declar_ok number place first_bad rows_verdict verdict row_count flat_size has_break first_break text_bytes node doc_at text_before row_ok Valid
-    scan whole fault own_row stored Fine unmarked text_events events step steps walk run layout pieces bytes_of broken_places longest_row tests_in paint untouched listed outcome quoted
+    scan whole fault own_row stored Fine unmarked text_events events step steps walk run layout pieces bytes_of broken_places longest_row groups_from outside paint untouched listed outcome quoted
     under tile_from tile digits_to digits number_doc escaped dotted joined is_anonymous name_text name_doc is_hygienic plus max_par succs_par sort_doc levels_doc leading following runs_to runs
     binders chain_body pushed in_force is_arrow is_named_pi goes_along same_group opening closing binder_name group_doc telescope arrow_par forall_par fun_par run_par runs_par binders_par var_doc
     app_head app_args app_par chain_par let_par expr_par_to expr_par expr_doc keyword info can_leave taken def_rest main_def axiom_rest main_axiom declar_doc Answers·number Answers·place

@@ -63,21 +63,21 @@ module _ {k : Print} (r : Run k) (returned : Returned r) (rooted : Rooted r) (ok
       subst (λ (x : ℕ). Fits R T x (byte_events (events (defined r)))) (sym e) (subst (λ (x : ℕ). Fits R T rows x) (sym f) d.fits) in
       all_pass R T (events (defined r)) fits d.names ∙ ap₂ going e f
 
-  answered : DocumentFits r → r.answer ≡ cond (ltb (length r.lent.listing) size) (Err Listing) (Ok (counts_of rows bytes (laid r)))
+  answered : DocumentFits r → r.answer ≡ cond (ltb (length r.lent.listing) size) (Err Listing) (Ok (counts_of rows bytes r.width (unmarked (defined r))))
   answered d = answer_is r returned rooted ok rows bytes (goes d)
 
   done : DocumentFits r → size ≤ length r.lent.listing → Succeeded r
   done d h =
       record {
-        counts = counts_of rows bytes (laid r);
-        answered = answered d ∙ ap (λ (b : Bool). cond b (Err Listing) (Ok (counts_of rows bytes (laid r)))) (le-ltb (length r.lent.listing) size h);
+        counts = counts_of rows bytes r.width (unmarked (defined r));
+        answered = answered d ∙ ap (λ (b : Bool). cond b (Err Listing) (Ok (counts_of rows bytes r.width (unmarked (defined r))))) (le-ltb (length r.lent.listing) size h);
       }
 
   too_short : DocumentFits r → length r.lent.listing < size → Reports r 22 0
   unfolding number place
   too_short d h =
       let a : r.answer ≡ Err Listing =
-      answered d ∙ ap (λ (b : Bool). cond b (Err Listing) (Ok (counts_of rows bytes (laid r)))) (lt-ltb (length r.lent.listing) size h) in
+      answered d ∙ ap (λ (b : Bool). cond b (Err Listing) (Ok (counts_of rows bytes r.width (unmarked (defined r))))) (lt-ltb (length r.lent.listing) size h) in
       (ap number a, ap place a)
 
   -- an event is refused: the walk stops there

@@ -193,8 +193,8 @@ painted_area (x ∷ l) (y ∷ s) = ap (λ (t : List ℕ). y ∷ t) (painted_area
 
 -- a stored document is laid out
 pub stored_is_listed : (d : Doc) → Fine d → (more_rows more_texts : List ℕ) (width : ℕ) (l : List ℕ) → row_count d ≤ 16384 → length (text_bytes d) ≤ 65536 → width ≤ 65535
-    → outcome (stored 0 d ++ more_rows) (row_count d) (text_bytes d ++ more_texts) (length (text_bytes d)) width l ≡ listed (row_count d) (length (text_bytes d)) (pieces width d) l
+    → outcome (stored 0 d ++ more_rows) (row_count d) (text_bytes d ++ more_texts) (length (text_bytes d)) width l ≡ listed (row_count d) (length (text_bytes d)) width d l
 stored_is_listed d fine more_rows more_texts width l few small narrow =
     let a = stored_accepted d more_rows more_texts fine few small in
     sym (answer_listed (stored 0 d ++ more_rows) (row_count d) (text_bytes d ++ more_texts) (length (text_bytes d)) width a.counts a.faultless l narrow)
-    ∙ ap (λ (z : Doc). listed (row_count d) (length (text_bytes d)) (pieces width z) l) (stored_reads_back d more_rows more_texts)
+    ∙ ap (λ (z : Doc). listed (row_count d) (length (text_bytes d)) width z l) (stored_reads_back d more_rows more_texts)

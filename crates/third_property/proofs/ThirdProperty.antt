@@ -6,7 +6,7 @@ use mathlib.Core.List.{List, ◌++◌}
 use mathlib.Core.Path.{◌≡◌, refl, sym, ap, ap₂, ◌∙◌, subst}
 use lib.Dec.{ltb, leb, eqb}
 use lib.ListN.{length, take, replicate}
-use borrow.Author.Tests.{eq-eqb, lt-ltb, ltb-true, ltb-false, leb-true}
+use borrow.Author.Tests.{lt-ltb, ltb-true, ltb-false, leb-true}
 use Rattle.document.specs.Doc.{Doc, row_count, text_bytes}
 use Rattle.document.specs.Stored.{stored, Fine}
 use Rattle.document.specs.Walk.{unmarked, Progress, going, stopped, walk}
@@ -16,16 +16,18 @@ use Rattle.document.proofs.ReadBack.{stored_reads_back}
 use Rattle.document.proofs.Emits.{Emitted, emit_of_going_walk}
 use Rattle.layout.specs.Layout.{Piece, pieces}
 use Rattle.layout.specs.Listing.{bytes_of}
+use Rattle.layout.specs.Groups.{fit_tests, group_count}
 use Rattle.layout.specs.Call.{counts_of, doc_of}
 use Rattle.layout.specs.Call as layout
 use Rattle.third_property.proofs.LayoutLaws.{blanks_put_back, rows_joined, held_rows_within_width}
 use Rattle.third_property.proofs.BreakLaws.{met-pieces, places_of_rows}
+use Rattle.third_property.proofs.TestLaws.{tests_of_rows}
+use Rattle.layout.proofs.GroupLaws.{at_most_all_groups}
 use Rattle.layout.specs.declared.Counts.{Counts}
 use Rattle.std.specs.Prelude.{Result, Ok, Err}
 use Rattle.pool_check.specs.declared.PoolError.{PoolError}
 use Rattle.pool.specs.Tables.{Pool, E, D}
 use Rattle.pool.specs.Unfold.{expr_at, declar_at}
-use Rattle.pool_check.specs.Check as check
 use Rattle.binders.specs.Options.{indented}
 use Rattle.declarations.proofs.FineLaws.{expr_fine, declar_fine}
 use Rattle.third_property.proofs.PlaceLaws.{Like, expr_like, declar_like}
@@ -34,10 +36,10 @@ use Rattle.lister.specs.Answers.{Answer, of_pool, number, place, stop_answer, of
 use Rattle.lister.specs.Source.{Source, pool_of, judged}
 use Rattle.lister.specs.Prints.{Areas, Outcome, untouched, document_cleared, filled, document_listed, after_walk, print_doc, sizes_ok, checked, print}
 use Rattle.third_property.specs.ThirdProperty.{Print, expression, declaration, call, roots_in, root_doc, SameTree, Run, Returned, Rooted, Succeeded, listing, document, Premises}
-use Rattle.third_property.specs.ThirdProperty.{SameCounts, EndAlike, refused, succeeded, defined, walked, laid, reported, Stands, AsDefined, sizes, stops, short, lists}
-use Rattle.third_property.specs.ThirdProperty.{SameDocument, PutBack, met_in, StartsRows, HoldsWidth, OneRun, TwoRuns, ThirdProperty}
+use Rattle.third_property.specs.ThirdProperty.{EndAlike, refused, succeeded, defined, walked, laid, reported, Stands, AsDefined, sizes, stops, short, lists}
+use Rattle.third_property.specs.ThirdProperty.{SameDocument, PutBack, met_in, StartsRows, HoldsWidth, CountsTests, OneRun, TwoRuns, ThirdProperty}
 use Rattle.third_property.specs.Claims.{rows_in, Within}
-use Rattle.third_property.specs.Places.{pieces_of, failed, break_places}
+use Rattle.third_property.specs.Places.{pieces_of, failed, break_places, groups_outside}
 use Rattle.layout.proofs.Painting.{written}
 use Rattle.basics.proofs.Booleans.{true-false}
 use Rattle.pool_check.proofs.NumberLaws.{some_number}
@@ -151,11 +153,11 @@ module _ {k : Print} (r : Run k) (returned : Returned r) (rooted : Rooted r) whe
         let e = ap (λ (o : Outcome). o.areas) listed_is in
         record { rows = ap (λ (a : Areas). a.rows) e; text = ap (λ (a : Areas). a.text) e; listing = ap (λ (a : Areas). a.listing) e }
 
-    pub answer_is : r.answer ≡ cond (ltb (length r.lent.listing) (length (bytes_of (laid r)))) (Err Listing) (Ok (counts_of rows text (laid r)))
+    pub answer_is : r.answer ≡ cond (ltb (length r.lent.listing) (length (bytes_of (laid r)))) (Err Listing) (Ok (counts_of rows text r.width d))
     unfolding document_listed layout.listed
     answer_is =
         ap (λ (o : Outcome). o.answer) listed_is
-        ∙ listed_answer (ltb (length r.lent.listing) (length (bytes_of (laid r)))) (counts_of rows text (laid r))
+        ∙ listed_answer (ltb (length r.lent.listing) (length (bytes_of (laid r)))) (counts_of rows text r.width d)
 
     emitted : Emitted (length r.lent.rows) (length r.lent.text) d rows text (emit (defined r) (sink.cleared (length r.lent.rows) (length r.lent.text)))
     emitted =
@@ -170,19 +172,19 @@ module _ {k : Print} (r : Run k) (returned : Returned r) (rooted : Rooted r) whe
         let n = emitted.rows in
         rw (s.rows, s.text, n) (stored_reads_back d (replicate (length r.lent.rows - length (stored 0 d)) 0) (replicate (length r.lent.text - length (text_bytes d)) 0))
 
-    done : length (bytes_of (laid r)) ≤ length r.lent.listing → r.answer ≡ Ok (counts_of rows text (laid r)) → AsDefined r
+    done : length (bytes_of (laid r)) ≤ length r.lent.listing → r.answer ≡ Ok (counts_of rows text r.width d) → AsDefined r
     done enough answered =
-        let s : Succeeded r = record { counts = counts_of rows text (laid r); answered = answered } in
+        let s : Succeeded r = record { counts = counts_of rows text r.width d; answered = answered } in
         lists s ok went enough stands
         (ap (take (length (bytes_of (laid r)))) stands.listing ∙ written r.lent.listing (bytes_of (laid r)) enough)
         reads_back
-        (record { rows = emitted.rows; text = emitted.text; length = refl; lines = refl; longest = refl })
+        (ap₂ (λ (x y : ℕ). counts_of x y r.width d) emitted.rows emitted.text)
 
     after_going : AsDefined r
     after_going = by (ltb (length r.lent.listing) (length (bytes_of (laid r)))) refl answer_is
       where
         by : (b : Bool) → ltb (length r.lent.listing) (length (bytes_of (laid r))) ≡ b
-            → r.answer ≡ cond b (Err Listing) (Ok (counts_of rows text (laid r))) → AsDefined r
+            → r.answer ≡ cond b (Err Listing) (Ok (counts_of rows text r.width d)) → AsDefined r
         by true e a = short rows text ok went (ltb-true (length r.lent.listing) (length (bytes_of (laid r))) e) a stands
         by false e a = done (ltb-false (length r.lent.listing) (length (bytes_of (laid r))) e) a
 
@@ -218,7 +220,7 @@ record Listed {k : Print} (r : Run k) (s : Succeeded r) : Type 0 where
   stands : Stands r
   listing_is : listing r s ≡ bytes_of (laid r)
   document_is : document r s ≡ unmarked (defined r)
-  counts_are : SameCounts s.counts (reported r)
+  counts_are : s.counts ≡ reported r
 
 module _ {k : Print} (r : Run k) (returned : Returned r) (unrefused : number r.answer ≡ 0) where
   unrefused_rooted : Rooted r
@@ -286,7 +288,7 @@ module _ {k : Print} (r : Run k) (returned : Returned r) (s : Succeeded r) where
       let l = success-listed r returned s in
       let e = sym l.document_is in (
         l.stands.rows ∙ ap (λ (d : Doc). filled r.lent.rows (stored 0 d)) e,
-        l.counts_are.rows ∙ ap row_count e,
+        ap (λ (c : Counts). c.rows) l.counts_are ∙ ap row_count e,
       )
 
   starts : StartsRows r s
@@ -307,17 +309,21 @@ module _ {k : Print} (r : Run k) (returned : Returned r) (s : Succeeded r) where
         within = subst (λ (ps : List Piece). Within r.width (rows_in ps)) (sym pieces-met) (held_rows_within_width r.width (document r s));
       }
 
--- ---- two runs over equal trees
+  tests : CountsTests r s
+  tests =
+      let d = document r s in
+      let l = success-listed r returned s in
+      let left = rows_left in
+      let e : s.counts.tests ≡ fit_tests r.width d = ap (λ (c : Counts). c.tests) l.counts_are ∙ ap (fit_tests r.width) (sym l.document_is) in
+      record {
+        exactly =
+            e
+            ∙ tests_of_rows r.width d (replicate (length r.lent.rows - length (stored 0 d)) 0)
+            ∙ ap₂ (groups_outside (failed (met_in r s))) (sym left.0) (sym left.1);
+        at_most = subst (λ (n : ℕ). n ≤ group_count d) (sym e) (at_most_all_groups r.width d);
+      }
 
-counts-through : {x y z w : Counts} → SameCounts x y → y ≡ z → SameCounts w z → SameCounts x w
-counts-through h e k =
-    record {
-      rows = h.rows ∙ ap (λ (c : Counts). c.rows) e ∙ sym k.rows;
-      text = h.text ∙ ap (λ (c : Counts). c.text) e ∙ sym k.text;
-      length = h.length ∙ ap (λ (c : Counts). c.length) e ∙ sym k.length;
-      lines = h.lines ∙ ap (λ (c : Counts). c.lines) e ∙ sym k.lines;
-      longest = h.longest ∙ ap (λ (c : Counts). c.longest) e ∙ sym k.longest;
-    }
+-- ---- two runs over equal trees
 
 module _ {k : Print} (a b : Run k) (returned : Returned a) (returned' : Returned b) (taken : Premises a b) where
   docs_like : Like (defined a) (defined b)
@@ -343,8 +349,8 @@ module _ {k : Print} (a b : Run k) (returned : Returned a) (returned' : Returned
       let x = success-listed a returned s in
       let y = success-listed b returned' t in
       record {
-        row_count = x.counts_are.rows ∙ ap row_count same_doc ∙ sym y.counts_are.rows;
-        byte_count = x.counts_are.text ∙ ap (λ (d : Doc). length (text_bytes d)) same_doc ∙ sym y.counts_are.text;
+        row_count = ap (λ (c : Counts). c.rows) x.counts_are ∙ ap row_count same_doc ∙ sym (ap (λ (c : Counts). c.rows) y.counts_are);
+        byte_count = ap (λ (c : Counts). c.text) x.counts_are ∙ ap (λ (d : Doc). length (text_bytes d)) same_doc ∙ sym (ap (λ (c : Counts). c.text) y.counts_are);
         rows =
             x.stands.rows ∙ ap (λ (d : Doc). filled a.lent.rows (stored 0 d)) same_doc
             ∙ filled-same a.lent.rows b.lent.rows (stored 0 (unmarked (defined b))) taken.rows ∙ sym y.stands.rows;
@@ -381,14 +387,12 @@ module _ {k : Print} (a b : Run k) (returned : Returned a) (returned' : Returned
     fit_alike = ap (λ (ps : List Piece). length (bytes_of ps)) same-laid
 
     same-reported : reported a ≡ reported b
-    same-reported = ap₂ (λ (d : Doc) (ps : List Piece). counts_of (row_count d) (length (text_bytes d)) ps) same_doc same-laid
+    same-reported = ap₂ (λ (d : Doc) (w : ℕ). counts_of (row_count d) (length (text_bytes d)) w d) same_doc width
 
     listed_alike : (s : Succeeded a) (t : Succeeded b) → listing a s ≡ bytes_of (laid a) → listing b t ≡ bytes_of (laid b)
-        → SameCounts s.counts (reported a) → SameCounts t.counts (reported b) → EndAlike a b
+        → s.counts ≡ reported a → t.counts ≡ reported b → EndAlike a b
     listed_alike s t l l' c c' =
-        succeeded s t
-        (l ∙ ap bytes_of same-laid ∙ sym l')
-        (counts-through c same-reported c')
+        succeeded s t (l ∙ ap bytes_of same-laid ∙ sym l') (c ∙ same-reported ∙ sym c')
 
     other_size : {A : Type 0} → sizes_ok a.indent a.width ≡ true → sizes_ok b.indent b.width ≡ false → A
     other_size e f = true-false (sym e ∙ same_sizes ∙ f)
@@ -430,6 +434,7 @@ one_run r returned =
       succeeds = λ unrefused. unrefused_succeeds r returned unrefused;
       starts_rows = λ s. starts r returned s;
       holds_width = λ s. holds r returned s;
+      counts_tests = λ s. tests r returned s;
     }
 
 two_runs : {k : Print} (a b : Run k) → Returned a → Returned b → TwoRuns a b

@@ -12,7 +12,7 @@ use Rattle.lister.specs.Prints.{Areas}
 use Rattle.third_property.specs.Claims.{rows_from, rows_in}
 use Rattle.third_property.specs.Places.{met_from, pieces_of, places_in, failed, rows_on, all_failed, group_rows, groups_outside}
 use Rattle.third_property.specs.ThirdProperty.{expression, declaration, call, SameTree, Run, run_of, Succeeded, Premises, met_in, TwoRuns}
-use Rattle.third_property.specs.ThirdProperty.{EndAlike, AsDefined, SameDocument, PutBack, StartsRows, HoldsWidth, document}
+use Rattle.third_property.specs.ThirdProperty.{EndAlike, AsDefined, SameDocument, PutBack, StartsRows, HoldsWidth, CountsTests, document}
 use Rattle.third_property.proofs.ThirdProperty.{third_property}
 use Rattle.specimens.specs.Computing.{computing}
 use Rattle.specimens.specs.Refusals.{chains, pis, over_pis, report, walked, names_declar, names_declar_later}
@@ -103,7 +103,10 @@ starts_rows = (runs.first.starts_rows first_succeeds, runs.second.starts_rows se
 pub holds_width : HoldsWidth first first_succeeds × HoldsWidth second second_succeeds
 holds_width = (runs.first.holds_width first_succeeds, runs.second.holds_width second_succeeds)
 
--- the break place and the rows that they speak of
+pub counts_tests : CountsTests first first_succeeds × CountsTests second second_succeeds
+counts_tests = (runs.first.counts_tests first_succeeds, runs.second.counts_tests second_succeeds)
+
+-- the break place, the groups and the rows that they speak of
 pub first_places : places_in (met_in first first_succeeds) ≡ record { row = 7; piece = blankᵖ 1 } ∷ []
 unfolding computing call met_from places_in first_succeeds
 first_places = refl

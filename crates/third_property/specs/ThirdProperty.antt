@@ -1,14 +1,15 @@
--- The third property (demand 3), clause by clause and in its order, over runs of print expression and print declaration.
+-- The third property (demand 3), clause by clause and in its order, over runs of print expression and print declaration; with document 02, P6.
 use Rattle.std.specs.Prelude.{ℕ, ◌<◌, ◌≤◌, true, false, List, ◌≡◌, length, take, replicate, Ok, Err}
 use Rattle.document.specs.Doc.{Doc, row_count, text_bytes}
 use Rattle.document.specs.Stored.{stored}
 use Rattle.document.specs.Walk.{Marked, unmarked, Progress, going, stopped, walk}
 use Rattle.layout.specs.Layout.{Piece, pieces}
 use Rattle.layout.specs.Listing.{bytes_of}
+use Rattle.layout.specs.Groups.{group_count}
 use Rattle.layout.specs.Paint.{paint}
 use Rattle.layout.specs.Call.{counts_of, doc_of}
 use Rattle.third_property.specs.Claims.{restored, in_order, rows_in, joined, Within}
-use Rattle.third_property.specs.Places.{Met, met, pieces_of, places_in, failed, break_places}
+use Rattle.third_property.specs.Places.{Met, met, pieces_of, places_in, failed, break_places, groups_outside}
 use Rattle.layout.specs.declared.Counts.{Counts}
 use Rattle.pool.specs.Tables.{Pool, E, D}
 use Rattle.pool.specs.Tree.{forget, forgetᵈ}
@@ -106,20 +107,13 @@ pub record Premises {k : Print} (a b : Run k) : Type 0 where
 
 -- ---- the clauses
 
--- "the same counts, all but the fit tests"
-pub record SameCounts (c d : Counts) : Type 0 where
-  pub rows : c.rows ≡ d.rows
-  pub text : c.text ≡ d.text
-  pub length : c.length ≡ d.length
-  pub lines : c.lines ≡ d.lines
-  pub longest : c.longest ≡ d.longest
-
 -- "the two runs at that width end alike: with the same refusal number, and the same place unless that number is 7, or with the same
--- listing and the same counts, all but the fit tests"
+-- listing and the same counts, all but the fit tests"; and these too: "two runs that print at one width, under the third property's premises,
+-- shall report it alike" (document 02, P6)
 pub data EndAlike {k : Print} (a b : Run k) : Type 0 where
   refused : 1 ≤ number a.answer → number a.answer ≡ number b.answer
       → ((number a.answer ≡ 7 → ⊥) → place a.answer ≡ place b.answer) → EndAlike a b
-  succeeded : (s : Succeeded a) (t : Succeeded b) → listing a s ≡ listing b t → SameCounts s.counts t.counts → EndAlike a b
+  succeeded : (s : Succeeded a) (t : Succeeded b) → listing a s ≡ listing b t → s.counts ≡ t.counts → EndAlike a b
 
 -- the document that 01 defines for a run's root
 abbrev pub defined : {k : Print} → Run k → Marked
@@ -135,7 +129,7 @@ laid r = pieces r.width (unmarked (defined r))
 
 -- what is reported of it
 abbrev pub reported : {k : Print} → Run k → Counts
-reported r = counts_of (row_count (unmarked (defined r))) (length (text_bytes (unmarked (defined r)))) (laid r)
+reported r = counts_of (row_count (unmarked (defined r))) (length (text_bytes (unmarked (defined r)))) r.width (unmarked (defined r))
 
 -- that document stands in the areas, with zeros after it, and in the listing area as much of its listing as fits
 pub record Stands {k : Print} (r : Run k) : Type 0 where
@@ -143,7 +137,8 @@ pub record Stands {k : Print} (r : Run k) : Type 0 where
   pub text : r.left.text ≡ filled r.lent.text (text_bytes (unmarked (defined r)))
   pub listing : r.left.listing ≡ paint r.lent.listing 0 (bytes_of (laid r))
 
--- "Each refusal, document and listing, and each count but the fit tests, is the one 01 defines for its run's root."
+-- "Each refusal, document and listing, and each count but the fit tests, is the one 01 defines for its run's root"; the fit tests are those that
+-- document 02, P6, defines
 pub data AsDefined {k : Print} (r : Run k) : Type 0 where
   -- 6
   sizes : sizes_ok r.indent r.width ≡ false → r.answer ≡ Err Size → r.left ≡ r.lent → AsDefined r
@@ -157,7 +152,7 @@ pub data AsDefined {k : Print} (r : Run k) : Type 0 where
   -- none
   lists : (s : Succeeded r) → sizes_ok r.indent r.width ≡ true → walked r ≡ going s.counts.rows s.counts.text
       → length (bytes_of (laid r)) ≤ length r.lent.listing → Stands r → listing r s ≡ bytes_of (laid r)
-      → document r s ≡ unmarked (defined r) → SameCounts s.counts (reported r) → AsDefined r
+      → document r s ≡ unmarked (defined r) → s.counts ≡ reported r → AsDefined r
 
 -- "when both runs succeed they leave the same document, row for row and byte for byte, so they share all texts and break places in order"
 pub record SameDocument {k : Print} (a b : Run k) (s : Succeeded a) (t : Succeeded b) : Type 0 where
@@ -187,6 +182,11 @@ pub record HoldsWidth {k : Print} (r : Run k) (s : Succeeded r) : Type 0 where
   pub listing_is : listing r s ≡ joined (rows_in (pieces_of (met_in r s)))
   pub within : Within r.width (rows_in (pieces_of (met_in r s)))
 
+-- "the number of groups that are not inside a flat group" (document 02, P6), of the rows that the run leaves; "at most all groups"
+pub record CountsTests {k : Print} (r : Run k) (s : Succeeded r) : Type 0 where
+  pub exactly : s.counts.tests ≡ groups_outside (failed (met_in r s)) r.left.rows s.counts.rows
+  pub at_most : s.counts.tests ≤ group_count (document r s)
+
 -- ---- the whole
 
 -- what holds of one run
@@ -198,6 +198,8 @@ pub record OneRun {k : Print} (r : Run k) : Type 0 where
   -- "In every run that succeeds"
   pub starts_rows : (s : Succeeded r) → StartsRows r s
   pub holds_width : (s : Succeeded r) → HoldsWidth r s
+  -- "Fit tests, exactly"
+  pub counts_tests : (s : Succeeded r) → CountsTests r s
 
 -- and of two
 pub record TwoRuns {k : Print} (a b : Run k) : Type 0 where
