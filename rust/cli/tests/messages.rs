@@ -119,13 +119,14 @@ fn library_folders() {
 fn built_by(name: &str, rt: &str) -> (String, i32) {
     let place = folder(name);
     let crates = ["src/f", "specs/f", "proofs/f", "out/f"].map(|file| format!("crates/lister_c/{file}"));
-    for (path, text) in crates.iter().map(|file| (file.as_str(), "")).chain([("crates.txt", ""), ("bin/rt", rt)]) {
+    for (path, text) in crates.iter().map(|file| (file.as_str(), "")).chain([("crates.txt", ""), ("rt", rt)]) {
         std::fs::create_dir_all(place.join(path).parent().unwrap()).unwrap();
         std::fs::write(place.join(path), text).unwrap();
     }
-    std::fs::create_dir_all(place.join("rust")).unwrap();
-    std::fs::copy(top().join("rust/build-library"), place.join("rust/build-library")).unwrap();
-    std::fs::set_permissions(place.join("bin/rt"), std::os::unix::fs::PermissionsExt::from_mode(0o755)).unwrap();
+    // Another process writes the two that are run. If they were written here, a program that a test beside this one starts could hold them open for
+    // a moment, and a file that is open for writing cannot be run.
+    let put = "mkdir -p rust bin && cp \"$0/rust/build-library\" rust/ && cp rt bin/ && chmod +x bin/rt";
+    assert!(Command::new("sh").current_dir(&place).args(["-c", put]).arg(top()).status().unwrap().success());
     let path = format!("{}:{}", place.join("bin").display(), std::env::var("PATH").unwrap());
     let messages = std::fs::File::create(place.join("messages")).unwrap();
     let mut build = Command::new(place.join("rust/build-library"));
