@@ -1,7 +1,7 @@
 #!/usr/bin/env python3
 """Writes docs/DESIGN-PASS-LISTS.md: what changed at the boundaries of the crates, old beside new. It proves nothing: it compares texts.
 
-usage: python3 tools/design-pass.py [--unpaired] [OLD-COMMIT]      at the top of the repository; the new side is the work tree
+usage: python3 tools/design-pass.py [--unpaired]      at the top of the repository; the two sides are the commits before the pass and at its end
 
 Compared are public functions and types, definitions of specs/, and public statements of proofs/. An item is found again at its place, else by
 its type and name in its crate, else by what design-pass-pairs.txt beside this script says: crate::path::name, a tab, the new
@@ -17,6 +17,7 @@ import sys
 import tarfile
 
 OLD = '2e2bca693153c9712c72bb45c93663d93c391634'
+NEW = 'b8e7e2e9f2d1f1c05b157ad3c3f60812f36b74ab'
 TOP = pathlib.Path(__file__).resolve().parent.parent
 KINDS = ['functions', 'types', 'definitions', 'theorems']
 Item = collections.namedtuple('Item', 'path place name text public')  # place: what stays of the path when its file changes
@@ -26,14 +27,9 @@ def git(*words):
     return subprocess.run(['git', *words], cwd=TOP, check=True, capture_output=True).stdout
 
 
-def old_files(commit):
+def files(commit):
     with tarfile.open(fileobj=io.BytesIO(git('archive', commit))) as tar:
         return {m.name: tar.extractfile(m).read().decode(errors='replace') for m in tar if m.isfile()}
-
-
-def new_files():
-    names = git('ls-files', '-z').decode().split('\0')
-    return {n: (TOP / n).read_text(errors='replace') for n in names if n and (TOP / n).is_file()}
 
 
 def dedent(text):
@@ -315,9 +311,7 @@ def went(out, label, rows):
 
 
 def main():
-    words = [w for w in sys.argv[1:] if w != '--unpaired']
-    commit = words[0] if words else OLD
-    old, new = old_files(commit), new_files()
+    old, new = files(OLD), files(NEW)
     crates = [m[1] for m in re.finditer(r'(?m)^(\w+)[^:\n]*:', new['crates.txt'])]
     olds, news = read(old, crates), read(new, crates)
     pages = [old[n] for n in old if n == 'README.md' or re.fullmatch(r'docs/[^/]*\.md', n)]
@@ -334,7 +328,7 @@ def main():
         print('\n'.join(unpaired + [f'{len(unpaired)} not paired']))
         sys.exit(bool(unpaired))
     states = ['same', 'spelling', 'moved', 'changed', 'moved and changed', 'gone']
-    out = ['# The lists of the design pass\n', f'What stood at `{commit[:7]}` beside what stands now, by crate, lowest first. `tools/design-pass.py` writes this page.\n',
+    out = ['# The lists of the design pass\n', f'What stood at `{OLD[:7]}` beside what stood at `{NEW[:7]}`, when the pass was done, by crate, lowest first. `tools/design-pass.py` writes this page.\n',
            'A line with `-` is old, one with `+` new. *Spelling*: nothing but names changed, each to one other. *Moved*: the same text at another place. '
            'A function or type counts as public where callers of its crate can name it; programs have none. A theorem counts as public where other files can cite it. '
            'Of the others only those that went, or stand under another name, are listed.\n',
