@@ -1,5 +1,5 @@
--- Break places and groups, on a document's rows: "A break place is a break row; around it are the rows whose subtree has it, and its nest is the sum of the
--- nest amounts there."
+-- Break places and groups, on a document's rows: "A break place is a break row; around it are the rows whose subtree has it, and its nest is
+-- the sum of the nest amounts there."
 use Rattle.std.specs.Prelude.{ℕ, zero, suc, ◌+◌, Bool, true, false, ◌&&◌, ◌||◌, not, cond, List, [], ◌∷◌, ◌++◌, eqb, leb, ltb}
 use Rattle.document.specs.Doc.{Doc, text, join, break, nest, group, row_count, has_break, first_break, through}
 use Rattle.document.specs.Rows.{word}
