@@ -2,8 +2,10 @@
 use Prim.Native.Nat.{ℕ, suc, ◌+◌, ◌-◌, ◌<◌, ◌≤◌}
 use native.Mathlib.Omega.{arith}
 use native.Mathlib.Numerals.{add-one}
-use mathlib.Core.Bool.{Bool, true, false, ◌&&◌, cond}
+use mathlib.Core.Bool.{Bool, true, false, ◌&&◌, not, cond}
 use Rattle.std.specs.Prelude.{Option, Some, None}
+use Rattle.std.specs.Option.{option_eq}
+use denote.Enum.Bare.{sameb}
 use mathlib.Core.Path.{◌≡◌, refl, sym, ap, ap₂, ◌∙◌, subst}
 use lib.ListN.{length}
 use lib.Dec.{ltb, eqb}
@@ -16,6 +18,9 @@ use Rattle.pool.specs.Unfold.{list_at, expr_at}
 use Rattle.pool.specs.Sound.{Sound}
 use Rattle.pool.proofs.TreeLaws.{label, labels_differ, differs_depth, differs_loose, lift-depth, lift-loose, raised, raised_low, raised_high, lift_closed, lift_none}
 use Rattle.pool.proofs.TreeLaws.{same_self}
+use Rattle.pool.specs.Codes.{Stands, expr_code}
+use Rattle.pool.specs.contracts.kinds.ExprKind.{the_type as ExprType}
+use Rattle.pool.proofs.Standing.{exprs_one, exprs_two}
 use Rattle.pool.proofs.RowUnfolds.{string_fits}
 use Rattle.pool.proofs.ExprUnfolds.{kind_small, depth-word, loose-word, label_word, var_at, sort_at, const_at, app_at, pi_at, lam_at, let_at, proj_at, nat_at, str_at}
 use Rattle.pool.proofs.ExprUnfolds.{sort_ok, const_ok, pi_ok, lam_ok, let_ok, proj_ok, nat_ok, str_ok}
@@ -50,52 +55,55 @@ module _ (p : Pool) (sound : Sound p) (a b : ℕ) (ha : a < E p.words) (hb : b <
       answered _ _ false
       (differs_depth _ _ (λ q. n (ex ∙ depth-word p sound a ha ∙ sym (lift-depth d c (expr_at p a)) ∙ q ∙ sym (depth-word p sound b hb) ∙ sym ey)))
 
-  pub other_labels : (x y : ℕ) → x ≡ expr_word p.words a 0 → y ≡ expr_word p.words b 0 → (x ≡ y → ⊥) → Answer (Some false)
-  other_labels x y ex ey n =
+  pub other_labels : (expr_word p.words a 0 ≡ expr_word p.words b 0 → ⊥) → Answer (Some false)
+  other_labels n =
       answered _ _ false
-      (labels_differ _ _ (λ q. n (ex ∙ sym (label_word p sound a ha) ∙ sym (lift_label d c (expr_at p a)) ∙ q ∙ label_word p sound b hb ∙ sym ey)))
+      (labels_differ _ _ (λ q. n (sym (label_word p sound a ha) ∙ sym (lift_label d c (expr_at p a)) ∙ q ∙ label_word p sound b hb)))
 
-  module _ (k l : ℕ) (ek : k ≡ expr_word p.words a 0) (el : l ≡ expr_word p.words b 0) (ekl : k ≡ l) (x y : ℕ) (ex : x ≡ expr_word p.words a 7) (ey : y ≡ expr_word p.words b 7) where
-    loose_a : x ≡ loose (expr_at p a)
-    loose_a = ex ∙ loose-word p sound a ha
+  -- the rows' kinds are read as o and q, and tested
+  module _ (o q : Option ExprType.D) (s : Stands expr_code 9 (expr_word p.words a 0) o) (t : Stands expr_code 9 (expr_word p.words b 0) q)
+      (v : Bool) (tested : v ≡ not (option_eq (sameb ExprType) o q)) where
+    pub kinds_apart : v ≡ true → Answer (Some false)
+    kinds_apart e = other_labels (exprs_two p sound a b ha o q s t v tested e)
 
-    loose_b : y ≡ loose (expr_at p b)
-    loose_b = ey ∙ loose-word p sound b hb
+    module _ (one : v ≡ false) (x y : ℕ) (ex : x ≡ expr_word p.words a 7) (ey : y ≡ expr_word p.words b 7) where
+      loose_a : x ≡ loose (expr_at p a)
+      loose_a = ex ∙ loose-word p sound a ha
 
-    lifted_is : loose (lift d c (expr_at p a)) ≡ raised d c x
-    lifted_is = lift-loose d c (expr_at p a) ∙ ap (raised d c) (sym loose_a)
+      loose_b : y ≡ loose (expr_at p b)
+      loose_b = ey ∙ loose-word p sound b hb
 
-    kinds_one : expr_word p.words a 0 ≡ expr_word p.words b 0
-    kinds_one = sym ek ∙ ekl ∙ el
+      lifted_is : loose (lift d c (expr_at p a)) ≡ raised d c x
+      lifted_is = lift-loose d c (expr_at p a) ∙ ap (raised d c) (sym loose_a)
 
-    pub may_be : Answer None
-    may_be = they_may _ _ kinds_one
+      pub may_be : Answer None
+      may_be = they_may _ _ (exprs_one p sound a b ha o q s t v tested one)
 
-    module _ (h : x ≤ c) where
-      pub low_differs : (x ≡ y → ⊥) → Answer (Some false)
-      low_differs n = answered _ _ false (differs_loose _ _ (λ q. n (sym (raised_low d c x h) ∙ sym lifted_is ∙ q ∙ sym loose_b)))
+      module _ (h : x ≤ c) where
+        pub low_differs : (x ≡ y → ⊥) → Answer (Some false)
+        low_differs n = answered _ _ false (differs_loose _ _ (λ q. n (sym (raised_low d c x h) ∙ sym lifted_is ∙ q ∙ sym loose_b)))
 
-      pub low_agrees : a ≡ b → Answer (Some true)
-      low_agrees e =
-          answered _ _ true
-          (ap (λ (f : Expr). same f (expr_at p b)) (lift_closed d c (expr_at p a) (subst (λ (z : ℕ). z ≤ c) loose_a h) ∙ ap (expr_at p) e)
-          ∙ same_self (expr_at p b))
+        pub low_agrees : a ≡ b → Answer (Some true)
+        low_agrees e =
+            answered _ _ true
+            (ap (λ (f : Expr). same f (expr_at p b)) (lift_closed d c (expr_at p a) (subst (λ (z : ℕ). z ≤ c) loose_a h) ∙ ap (expr_at p) e)
+            ∙ same_self (expr_at p b))
 
-    module _ (h : c < x) where
-      pub high_differs : (x + d ≡ y → ⊥) → Answer (Some false)
-      high_differs n = answered _ _ false (differs_loose _ _ (λ q. n (sym (raised_high d c x h) ∙ sym lifted_is ∙ q ∙ sym loose_b)))
+      module _ (h : c < x) where
+        high_differs : (x + d ≡ y → ⊥) → Answer (Some false)
+        high_differs n = answered _ _ false (differs_loose _ _ (λ q. n (sym (raised_high d c x h) ∙ sym lifted_is ∙ q ∙ sym loose_b)))
 
-      pub below_differs : y < x → Answer (Some false)
-      below_differs l = high_differs (λ q. omega arith)
+        pub below_differs : y < x → Answer (Some false)
+        below_differs l = high_differs (λ q. omega arith)
 
-      pub apart_differs : x ≤ y → (y - x ≡ d → ⊥) → Answer (Some false)
-      apart_differs g n = high_differs (λ q. n (omega arith))
+        pub apart_differs : x ≤ y → (y - x ≡ d → ⊥) → Answer (Some false)
+        apart_differs g n = high_differs (λ q. n (omega arith))
 
-      pub not_lifted : d ≡ 0 → a ≡ b → Answer (Some true)
-      not_lifted z e =
-          answered _ _ true
-          (ap (λ (f : Expr). same f (expr_at p b)) (ap (λ (n : ℕ). lift n c (expr_at p a)) z ∙ lift_none c (expr_at p a) ∙ ap (expr_at p) e)
-          ∙ same_self (expr_at p b))
+        pub not_lifted : d ≡ 0 → a ≡ b → Answer (Some true)
+        not_lifted z e =
+            answered _ _ true
+            (ap (λ (f : Expr). same f (expr_at p b)) (ap (λ (n : ℕ). lift n c (expr_at p a)) z ∙ lift_none c (expr_at p a) ∙ ap (expr_at p) e)
+            ∙ same_self (expr_at p b))
 
 -- ---- by fields and parts
 

@@ -1,9 +1,10 @@
 -- Laws of the equality of levels and lists, in the words of the code.
 use Prim.Native.Nat.{ℕ, zero, suc, ◌+◌, ◌-◌, ◌<◌, ◌≤◌}
 use native.Mathlib.Omega.{arith}
-use mathlib.Core.Bool.{Bool, true, false, ◌&&◌}
+use mathlib.Core.Bool.{Bool, true, false, ◌&&◌, not}
 use Rattle.std.specs.Prelude.{Option, Some, None}
-use Rattle.std.specs.Option.{is_some}
+use Rattle.std.specs.Option.{is_some, option_eq}
+use denote.Enum.Bare.{sameb}
 use mathlib.Core.List.{List}
 use mathlib.Core.Path.{◌≡◌, refl, sym, ap, ap₂, ◌∙◌, subst}
 use lib.ListN.{length}
@@ -13,10 +14,13 @@ use Rattle.pool.specs.Tables.{Pool, N, L, K, Q, level_word, list_word, list_entr
 use Rattle.pool.specs.Tree.{Shape, Level, zeroˡ, name_shape, level_shape, level_shapes, same_shape, same_shapes}
 use Rattle.pool.specs.Unfold.{name_at, level_at, levels_from, list_at}
 use Rattle.pool.proofs.TreeLaws.{shape_same, shape_equal, shapes_same, labels_differ, levels_equal_lem}
-use Rattle.pool.proofs.RowUnfolds.{zero_at, succ_at, max_at, imax_at, param_at, succ_ok, succ_rest, max_ok, imax_ok, param_ok, level_kind_small, level_label_word}
+use Rattle.pool.proofs.RowUnfolds.{zero_at, succ_at, max_at, imax_at, param_at, succ_ok, succ_rest, max_ok, imax_ok, param_ok, level_label_word}
 use Rattle.pool.proofs.RowUnfolds.{list_fits, entry-fits}
 use Rattle.compare.specs.Seen.{packed, with_key, Holds}
 use Rattle.pool.specs.Sound.{Sound}
+use Rattle.pool.specs.Codes.{Stands, level_code}
+use Rattle.pool.specs.contracts.kinds.LevelKind.{the_type as LevelType}
+use Rattle.pool.proofs.Standing.{levels_one, levels_two}
 use Rattle.links.specs.Links.{Clear, Linked, Settled}
 use Rattle.links.proofs.LinkLaws.{clear_owes}
 use Rattle.occurrence.specs.Asked.{Told}
@@ -59,91 +63,87 @@ module _ (p : Pool) (sound : Sound p) (a b : ℕ) (ha : a < L p.words) (hb : b <
   pub one_row : a ≡ b → Quick (levels_same p a b) (Branches p a b) (Some true)
   one_row e = answered _ _ true (ap (λ (r : ℕ). levels_same p r b) e ∙ shape_same _)
 
-  pub other_kinds : (x y : ℕ) → x ≡ wa 0 → y ≡ wb 0 → (x ≡ y → ⊥) → Quick (levels_same p a b) (Branches p a b) (Some false)
-  other_kinds x y ex ey n =
-      answered _ _ false
-      (labels_differ _ _ (λ q. n (ex ∙ sym (level_label_word p sound a ha) ∙ q ∙ level_label_word p sound b hb ∙ sym ey)))
+  -- the rows' kinds are read as o and q, and tested
+  module _ (o q : Option LevelType.D) (s : Stands level_code 4 (wa 0) o) (t : Stands level_code 4 (wb 0) q) (u : Bool)
+      (tested : u ≡ not (option_eq (sameb LevelType) o q)) where
+    pub other_kinds : u ≡ true → Quick (levels_same p a b) (Branches p a b) (Some false)
+    other_kinds e =
+        answered _ _ false
+        (labels_differ _ _
+        (λ l. levels_two p sound a b ha o q s t u tested e (sym (level_label_word p sound a ha) ∙ l ∙ level_label_word p sound b hb)))
 
-  module _ (x y : ℕ) (ex : x ≡ wa 0) (ey : y ≡ wb 0) (e : x ≡ y) where
-    kind_a : (k : ℕ) → x ≡ k → wa 0 ≡ k
-    kind_a k q = sym ex ∙ q
+    module _ (one : u ≡ false) where
+      kind_b : (k : ℕ) → wa 0 ≡ k → wb 0 ≡ k
+      kind_b k e = sym (levels_one p sound a b ha o q s t u tested one) ∙ e
 
-    kind_b : (k : ℕ) → x ≡ k → wb 0 ≡ k
-    kind_b k q = sym ey ∙ sym e ∙ q
+      pub both_zero : wa 0 ≡ 0 → Quick (levels_same p a b) (Branches p a b) (Some true)
+      both_zero q =
+          answered _ _ true
+          (ap₂ (λ (l m : Level). same_shape (level_shape l) (level_shape m)) (zero_at p sound a ha q) (zero_at p sound b hb (kind_b 0 q))
+          ∙ shape_same (level_shape zeroˡ))
 
-    pub both_zero : x ≡ 0 → Quick (levels_same p a b) (Branches p a b) (Some true)
-    both_zero q =
-        answered _ _ true
-        (ap₂ (λ (l m : Level). same_shape (level_shape l) (level_shape m)) (zero_at p sound a ha (kind_a 0 q)) (zero_at p sound b hb (kind_b 0 q))
-        ∙ shape_same (level_shape zeroˡ))
+      both_succ : wa 0 ≡ 1 → Branches p a b
+      unfolding level_shape same_shape same_bytes
+      both_succ q =
+          let la = succ_ok p sound a ha q in
+          let lb = succ_ok p sound b hb (kind_b 1 q) in
+          let za = succ_rest p sound a ha q in
+          let zb = succ_rest p sound b hb (kind_b 1 q) in
+          record {
+            lower₁ = la;
+            lower₂ = omega (arith, la, za);
+            lower₃ = lb;
+            lower₄ = omega (arith, lb, zb);
+            both =
+                rw (
+                  succ_at p sound a ha q,
+                  succ_at p sound b hb (kind_b 1 q),
+                  za,
+                  zb,
+                  shape_same (level_shape (level_at p 0)),
+                );
+          }
 
-    both_succ : x ≡ 1 → Branches p a b
-    unfolding level_shape same_shape same_bytes
-    both_succ q =
-        let la = succ_ok p sound a ha (kind_a 1 q) in
-        let lb = succ_ok p sound b hb (kind_b 1 q) in
-        let za = succ_rest p sound a ha (kind_a 1 q) in
-        let zb = succ_rest p sound b hb (kind_b 1 q) in
-        record {
-          lower₁ = la;
-          lower₂ = omega (arith, la, za);
-          lower₃ = lb;
-          lower₄ = omega (arith, lb, zb);
-          both =
-              rw (
-                succ_at p sound a ha (kind_a 1 q),
-                succ_at p sound b hb (kind_b 1 q),
-                za,
-                zb,
-                shape_same (level_shape (level_at p 0)),
-              );
-        }
+      both_max : wa 0 ≡ 2 → Branches p a b
+      unfolding level_shape same_shape same_bytes
+      both_max q =
+          let la = max_ok p sound a ha q in
+          let lb = max_ok p sound b hb (kind_b 2 q) in
+          record {
+            lower₁ = la.0;
+            lower₂ = la.1;
+            lower₃ = lb.0;
+            lower₄ = lb.1;
+            both = rw (max_at p sound a ha q, max_at p sound b hb (kind_b 2 q), and-true (levels_same p (wa 2) (wb 2)));
+          }
 
-    both_max : x ≡ 2 → Branches p a b
-    unfolding level_shape same_shape same_bytes
-    both_max q =
-        let la = max_ok p sound a ha (kind_a 2 q) in
-        let lb = max_ok p sound b hb (kind_b 2 q) in
-        record {
-          lower₁ = la.0;
-          lower₂ = la.1;
-          lower₃ = lb.0;
-          lower₄ = lb.1;
-          both = rw (max_at p sound a ha (kind_a 2 q), max_at p sound b hb (kind_b 2 q), and-true (levels_same p (wa 2) (wb 2)));
-        }
+      both_imax : wa 0 ≡ 3 → Branches p a b
+      unfolding level_shape same_shape same_bytes
+      both_imax q =
+          let la = imax_ok p sound a ha q in
+          let lb = imax_ok p sound b hb (kind_b 3 q) in
+          record {
+            lower₁ = la.0;
+            lower₂ = la.1;
+            lower₃ = lb.0;
+            lower₄ = lb.1;
+            both = rw (imax_at p sound a ha q, imax_at p sound b hb (kind_b 3 q), and-true (levels_same p (wa 2) (wb 2)));
+          }
 
-    both_imax : x ≡ 3 → Branches p a b
-    unfolding level_shape same_shape same_bytes
-    both_imax q =
-        let la = imax_ok p sound a ha (kind_a 3 q) in
-        let lb = imax_ok p sound b hb (kind_b 3 q) in
-        record {
-          lower₁ = la.0;
-          lower₂ = la.1;
-          lower₃ = lb.0;
-          lower₄ = lb.1;
-          both = rw (imax_at p sound a ha (kind_a 3 q), imax_at p sound b hb (kind_b 3 q), and-true (levels_same p (wa 2) (wb 2)));
-        }
+      pub branches : (wa 0 ≡ 0 → ⊥) → wa 0 < 4 → Quick (levels_same p a b) (Branches p a b) None
+      branches n h = they_may _ _ (one_to_three (λ (k : ℕ). wa 0 ≡ k → Branches p a b) both_succ both_max both_imax (wa 0) n h refl)
 
-    pub branches : (x ≡ 0 → ⊥) → x < 4 → Quick (levels_same p a b) (Branches p a b) None
-    branches n h = they_may _ _ (one_to_three (λ (k : ℕ). x ≡ k → Branches p a b) both_succ both_max both_imax x n h refl)
+      module _ (is_param : wa 0 ≡ 4) (x y : ℕ) (ex : x ≡ wa 1) (ey : y ≡ wb 1) where
+        pub names_there : (x < N p.names) × (y < N p.names)
+        names_there = (rw ex (param_ok p sound a ha is_param), rw ey (param_ok p sound b hb (kind_b 4 is_param)))
 
-    module _ (n : x ≡ 0 → ⊥) (h : 4 ≤ x) where
-      is_param : x ≡ 4
-      is_param = let l : wa 0 < 5 = level_kind_small p sound a ha in omega arith
-
-      module _ (u v : ℕ) (eu : u ≡ wa 1) (ev : v ≡ wb 1) where
-        pub names_there : (u < N p.names) × (v < N p.names)
-        names_there =
-            (rw eu (param_ok p sound a ha (kind_a 4 is_param)), rw ev (param_ok p sound b hb (kind_b 4 is_param)))
-
-        by_names : levels_same p a b ≡ same_shape (name_shape (name_at p u)) (name_shape (name_at p v))
+        by_names : levels_same p a b ≡ same_shape (name_shape (name_at p x)) (name_shape (name_at p y))
         unfolding level_shape same_shape same_bytes
         by_names =
-            rw (param_at p sound a ha (kind_a 4 is_param), param_at p sound b hb (kind_b 4 is_param), eu, ev)
+            rw (param_at p sound a ha is_param, param_at p sound b hb (kind_b 4 is_param), ex, ey)
             (and-true (same_shape (name_shape (name_at p (wa 1))) (name_shape (name_at p (wb 1)))))
 
-        pub params_are : (r : Bool) → r ≡ same_shape (name_shape (name_at p u)) (name_shape (name_at p v)) → Quick (levels_same p a b) (Branches p a b) (Some r)
+        pub params_are : (r : Bool) → r ≡ same_shape (name_shape (name_at p x)) (name_shape (name_at p y)) → Quick (levels_same p a b) (Branches p a b) (Some r)
         params_are r er = answered _ _ r (by_names ∙ sym er)
 
 -- ---- the comparison

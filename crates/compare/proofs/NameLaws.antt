@@ -1,7 +1,10 @@
 -- Laws of the equality of strings and names.
 use Prim.Native.Nat.{ℕ, zero, suc, ◌+◌, ◌-◌, ◌<◌, ◌≤◌}
 use native.Mathlib.Omega.{arith}
-use mathlib.Core.Bool.{Bool, true, false, ◌&&◌}
+use mathlib.Core.Bool.{Bool, true, false, ◌&&◌, not}
+use Rattle.std.specs.Prelude.{Option, Some}
+use Rattle.std.specs.Option.{option_eq}
+use denote.Enum.Bare.{sameb}
 use mathlib.Core.List.{List}
 use mathlib.Core.Path.{◌≡◌, refl, sym, ap, ap₂, ◌∙◌}
 use lib.ListN.{length, take, drop}
@@ -14,6 +17,10 @@ use Rattle.pool.specs.Unfold.{name_at}
 use Rattle.pool.proofs.TreeLaws.{bytes_same, shape_same, labels_differ}
 use Rattle.pool.proofs.RowUnfolds.{anonymous_at, string_at_lem, number_at, string_ok_lem, number_ok, name_kind_small, name_label_word, string_fits}
 use Rattle.pool.specs.Sound.{Sound}
+use Rattle.pool.specs.Codes.{Stands, name_code}
+use Rattle.pool.specs.declared.kinds.NameKind.TheVariants.{Anonymous}
+use Rattle.pool.specs.contracts.kinds.NameKind.{the_type as NameType}
+use Rattle.pool.proofs.Standing.{name_is, name_not, names_one, names_two}
 use Rattle.compare.specs.Equal.{string_of, number_of, TwoNames, ends_same}
 
 -- ---- strings
@@ -107,20 +114,30 @@ module _ (p : Pool) (sound : Sound p) (kind a b : ℕ) (s : TwoNames p kind a b)
       ap₂ (λ (i j : ℕ). same_shape (name_of i) (name_of j)) ex ey
       ∙ sym (by_ends ∙ ap (λ (z : Bool). z && same_shape (name_of (wa 1)) (name_of (wb 1))) (sym q ∙ n)) ∙ h
 
-module _ (p : Pool) (sound : Sound p) (a b : ℕ) (ha : a < N p.names) (hb : b < N p.names) (v : Bool)
-    (h : same_shape (name_shape (name_at p a)) (name_shape (name_at p b)) ≡ v) where
-  pub kinds_differ : (x y : ℕ) → x ≡ name_word p.names a 0 → y ≡ name_word p.names b 0 → (x ≡ y → ⊥) → false ≡ v
-  kinds_differ x y ex ey n =
-      sym (labels_differ _ _ (λ q. n (ex ∙ sym (name_label_word p sound a ha) ∙ q ∙ name_label_word p sound b hb ∙ sym ey))) ∙ h
+module _ (p : Pool) (sound : Sound p) (a b : ℕ) (ha : a < N p.names) (hb : b < N p.names) where
+  abbrev Names : Bool → Type 0
+  Names v = same_shape (name_shape (name_at p a)) (name_shape (name_at p b)) ≡ v
 
-  pub both_roots : (x y : ℕ) → x ≡ name_word p.names a 0 → y ≡ name_word p.names b 0 → x ≡ y → x ≡ 0 → true ≡ v
-  both_roots x y ex ey e z =
-      sym (ap₂ (λ (m n : Name). same_shape (name_shape m) (name_shape n)) (anonymous_at p sound a ha (sym ex ∙ z))
-      (anonymous_at p sound b hb (sym ey ∙ sym e ∙ z)) ∙ shape_same (name_shape anonymous)) ∙ h
+  pub same_row : a ≡ b → (v : Bool) → Names v → true ≡ v
+  same_row e v h = sym (ap (λ (r : ℕ). same_shape (name_shape (name_at p r)) (name_shape (name_at p b))) e ∙ shape_same _) ∙ h
 
-  pub same_row : a ≡ b → true ≡ v
-  same_row e = sym (ap (λ (r : ℕ). same_shape (name_shape (name_at p r)) (name_shape (name_at p b))) e ∙ shape_same _) ∙ h
+  -- the rows' kinds are read as o and q, and tested
+  module _ (o q : Option NameType.D) (s : Stands name_code 2 (name_word p.names a 0) o) (t : Stands name_code 2 (name_word p.names b 0) q)
+      (u : Bool) (tested : u ≡ not (option_eq (sameb NameType) o q)) where
+    pub kinds_differ : u ≡ true → (v : Bool) → Names v → false ≡ v
+    kinds_differ e v h =
+        sym (labels_differ _ _ (λ l. names_two p sound a b ha o q s t u tested e (sym (name_label_word p sound a ha) ∙ l ∙ name_label_word p sound b hb)))
+        ∙ h
 
-pub two_names : (p : Pool) (kind kind' a b : ℕ) → a < N p.names → b < N p.names → kind ≡ name_word p.names a 0 → kind' ≡ name_word p.names b 0
-    → kind ≡ kind' → (kind ≡ 0 → ⊥) → TwoNames p kind a b
-two_names p kind kind' a b ha hb ea eb e n = record { a_row = ha; b_row = hb; a_kind = ea; b_kind = e ∙ eb; no_root = n }
+    module _ (one : u ≡ false) (r : Bool) (root : r ≡ option_eq (sameb NameType) o (Some Anonymous)) where
+      kinds_agree : name_word p.names a 0 ≡ name_word p.names b 0
+      kinds_agree = names_one p sound a b ha o q s t u tested one
+
+      pub both_roots : r ≡ true → (v : Bool) → Names v → true ≡ v
+      both_roots e v h =
+          let z = name_is _ o s Anonymous r root e in
+          sym (ap₂ (λ (m n : Name). same_shape (name_shape m) (name_shape n)) (anonymous_at p sound a ha z)
+          (anonymous_at p sound b hb (sym kinds_agree ∙ z)) ∙ shape_same (name_shape anonymous)) ∙ h
+
+      pub two_names : r ≡ false → TwoNames p (name_word p.names a 0) a b
+      two_names e = record { a_row = ha; b_row = hb; a_kind = refl; b_kind = kinds_agree; no_root = name_not _ o s Anonymous r root e }

@@ -85,7 +85,8 @@ const NAME: usize = 1;
 
 // Two rows of these kinds: the name, and the word beside it: a style, a let's nondep or an index.
 fn same_named(pool: &CheckedPool<'_>, a: usize, b: usize, beside: usize) -> bool
-    requires { let kind = expr_word (lent pool.now).words a 0 in (OneKind (lent pool.now) a b kind) × (3 < kind) × (kind < 8) × (beside < 8) }
+    requires { let kind = expr_word (lent pool.now).words a 0 in
+        (OneKind (lent pool.now) a b kind) × (3 < kind) × (kind < 8) × (beside < 8) }
     ensures { let p = lent pool.now in result ≡ names_same p (expr_word p.words a 1) (expr_word p.words b 1)
         && eqb (expr_word p.words a beside) (expr_word p.words b beside) }
 {
@@ -97,7 +98,8 @@ fn same_named(pool: &CheckedPool<'_>, a: usize, b: usize, beside: usize) -> bool
 
 fn same_literal(pool: &CheckedPool<'_>, a: usize, b: usize) -> bool
     requires { let kind = expr_word (lent pool.now).words a 0 in (OneKind (lent pool.now) a b kind) × (8 ≤ kind) }
-    ensures { let p = lent pool.now in result ≡ same_bytes (string_of p.bytes p.names (expr_word p.words a 1)) (string_of p.bytes p.names (expr_word p.words b 1)) }
+    ensures { let p = lent pool.now in result ≡ same_bytes (string_of p.bytes p.names (expr_word p.words a 1))
+        (string_of p.bytes p.names (expr_word p.words b 1)) }
 {
     let string_a = pool.words.expr(a, LITERAL_STRING);
     let string_b = pool.words.expr(b, LITERAL_STRING);

@@ -9,7 +9,8 @@ ghost use Rattle.document.specs.Walk.{textᵐ};
 ghost use Rattle.binders.specs.Asked.{Asked, InChain};
 ghost use Rattle.declarations.specs.Declars.{keyword, info, can_leave, main_def, main_axiom};
 ghost use Rattle.binders.specs.Steps.{first_binder, is_binder, chain_length, drop_chain};
-ghost use Rattle.declarations.specs.Heads.{Declared, can_take, TakenEnd, head_part, type_part, value_part, def_part, def_start, def_parts, axiom_part, axiom_start};
+ghost use Rattle.declarations.specs.Heads.{Declared, can_take, TakenEnd, head_part, type_part, value_part};
+ghost use Rattle.declarations.specs.Heads.{def_part, def_start, def_parts, axiom_part, axiom_start};
 
 use binders::chain::{chain_length, push_chain};
 use binders::printer::Printer;

@@ -160,7 +160,7 @@ module _ (pool : Pool) (sound : Sound pool) where
           by false e =
               let q = eqb-false kind (expr_word pool.words b 0) e in
               ap is_equal (kinds_differ n pool d c a b small q)
-              ∙ sym ((other_labels pool sound a b ha hb d c kind (expr_word pool.words b 0) refl refl q).told false refl)
+              ∙ sym ((other_labels pool sound a b ha hb d c q).told false refl)
 
   pub equal_trees : (n d : ℕ) → EqualTo n d
   equal_trees zero d c a b ha hb h = absurd (omega arith)

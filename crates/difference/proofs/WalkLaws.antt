@@ -2,17 +2,22 @@
 use Prim.Native.Nat.{ℕ, zero, suc, ◌+◌, ◌<◌, ◌≤◌}
 use native.Mathlib.Omega.{arith}
 use native.Mathlib.Numerals.{add-one}
-use mathlib.Core.Bool.{Bool, true, false}
+use mathlib.Core.Bool.{Bool, true, false, not}
 use mathlib.Core.List.{List}
 use mathlib.Core.Logic.{◌⊎◌, inl, inr}
 use mathlib.Core.Path.{◌≡◌, refl, sym, ap, ◌∙◌, subst}
 use Rattle.std.specs.Prelude.{Option, Some, None}
+use Rattle.std.specs.Option.{option_eq}
+use denote.Enum.Bare.{sameb}
 use Rattle.pool.specs.Tables.{Pool, E, expr_word}
 use Rattle.pool.specs.Sound.{Sound}
 use Rattle.pool.proofs.ExprUnfolds.{kind_small}
+use Rattle.pool.specs.Codes.{Stands, expr_code}
+use Rattle.pool.specs.contracts.kinds.ExprKind.{the_type as ExprType}
+use Rattle.pool.proofs.Standing.{exprs_one, exprs_two}
 use Rattle.occurrence.specs.Parts.{part_of, first_part, second_part, body_part}
 use Rattle.occurrence.proofs.PartLaws.{first_lower, second_lower, body_lower}
-use Rattle.compare.specs.Equal.{fields_same}
+use Rattle.compare.specs.Equal.{fields_same, OneKind}
 use Rattle.links.specs.Links.{Owes}
 use Rattle.equality.specs.Sweep.{tree_at}
 use Rattle.difference.specs.declared.walk.Found.{Found}
@@ -37,15 +42,26 @@ module _ (pool : Pool) (sound : Sound pool) (known : Bool) (d c a b : ℕ) (s : 
   pub known_at_once : known ≡ true → is_plain pool.words d c a ≡ true → AtOnce pool d c a b (Some true)
   known_at_once k plain = equal_at_once (known_equal pool sound d c a b s.a_row s.b_row plain (s.known_so k))
 
-  pub kinds_at_once : (expr_word pool.words a 0 ≡ expr_word pool.words b 0 → ⊥) → AtOnce pool d c a b (Some false)
-  kinds_at_once q = differ_at_once (λ n. kinds_differ n pool d c a b small q)
+  -- the rows' kinds are read as o and q, and tested
+  module _ (o q : Option ExprType.D) (stands : Stands expr_code 9 (expr_word pool.words a 0) o) (stands' : Stands expr_code 9 (expr_word pool.words b 0) q)
+      (u : Bool) (tested : u ≡ not (option_eq (sameb ExprType) o q)) where
+    pub kinds_at_once : u ≡ true → AtOnce pool d c a b (Some false)
+    kinds_at_once e =
+        differ_at_once (λ n. kinds_differ n pool d c a b small (exprs_two pool sound a b s.a_row o q stands stands' u tested e))
 
-  module _ (one : expr_word pool.words a 0 ≡ expr_word pool.words b 0) (v : Bool) (ev : v ≡ fields_same pool d c a b (expr_word pool.words a 0)) where
-    pub fields_at_once : v ≡ false → AtOnce pool d c a b (Some false)
-    fields_at_once e = differ_at_once (λ n. fields_differ n pool d c a b small one (sym ev ∙ e))
+    module _ (agree : u ≡ false) where
+      one : expr_word pool.words a 0 ≡ expr_word pool.words b 0
+      one = exprs_one pool sound a b s.a_row o q stands stands' u tested agree
 
-    pub parts_at_once : v ≡ true → AtOnce pool d c a b None
-    parts_at_once e = record { no = λ z. cc; yes = λ z. cc; one = λ z. one; left = λ z n. by_parts n pool d c a b small one (sym ev ∙ e) }
+      pub one_kind : OneKind pool a b (expr_word pool.words a 0)
+      one_kind = record { a_row = s.a_row; b_row = s.b_row; a_kind = refl; b_kind = one }
+
+      module _ (v : Bool) (ev : v ≡ fields_same pool d c a b (expr_word pool.words a 0)) where
+        pub fields_at_once : v ≡ false → AtOnce pool d c a b (Some false)
+        fields_at_once e = differ_at_once (λ n. fields_differ n pool d c a b small one (sym ev ∙ e))
+
+        pub parts_at_once : v ≡ true → AtOnce pool d c a b None
+        parts_at_once e = record { no = λ z. cc; yes = λ z. cc; one = λ z. one; left = λ z n. by_parts n pool d c a b small one (sym ev ∙ e) }
 
 -- ---- parts that are not there
 

@@ -1,4 +1,5 @@
-// A document that number 9 does not refuse. It has the fields of a `Document` itself, so that they are read as there. A file of its own: its ghost field names what `check` promises.
+// A document that number 9 does not refuse. It has the fields of a `Document` itself, so that they are read as there. A file of its own: its
+// ghost field names what `check` promises.
 ghost use Rattle.document.specs.Rows.{Accepted};
 
 #[derive(Clone, Copy)]

@@ -1,7 +1,8 @@
 // The sink that printers emit a document into: the two areas that it is lent, and how far it has come in them. It is sticky: once it has
 // stopped, no function writes or changes anything, so that printers need no branch after each call.
 ghost use Rattle.std.specs.Prelude.{◌≡◌, [], ◌∷◌, length, replicate, is_some};
-ghost use Rattle.document.specs.Sink.{refuse, put_row, put_byte, put_bytes, room_of, end_text, put_text, put_break, put_join, put_nest, put_group, put_wrapped, put_names, stop_with};
+ghost use Rattle.document.specs.Sink.{refuse, put_row, put_byte, put_bytes, room_of, end_text, put_text};
+ghost use Rattle.document.specs.Sink.{put_break, put_join, put_nest, put_group, put_wrapped, put_names, stop_with};
 ghost use Rattle.document.specs.Codes.{row_code};
 ghost use Rattle.document.specs.Leaves.{Leaves, Begins};
 ghost use Rattle.document.specs.Rows.{Small};

@@ -28,8 +28,7 @@ WalkEnds s width rows text = (s.stop ≡ None → Accepted rows s.rows text s.te
 -- the document that stands in the areas is laid out
 unfoldable pub laid_out : Written → ℕ → Areas → Outcome
 laid_out s width areas =
-    let o : call.Outcome =
-    call.listed s.rows s.text width (call.doc_of areas.rows s.rows areas.text) areas.listing in
+    let o : call.Outcome = call.listed s.rows s.text width (call.doc_of areas.rows s.rows areas.text) areas.listing in
     record {
       answer = of_laid o.answer;
       areas = record { rows = areas.rows; text = areas.text; listing = o.listing };

@@ -111,7 +111,8 @@ pub fn layout_pending(
     pending: &mut [u32],
     listing: &mut [u8],
 ) -> Result<Counts, PendingError>
-    ensures { ListsPending pending listing result (outcome_pending document.now.rows.now document.now.count document.now.text.now document.now.total width) }
+    ensures { ListsPending pending listing result
+        (outcome_pending document.now.rows.now document.now.count document.now.text.now document.now.total width) }
 {
     layout_pending::layout_pending(document, width, pending, listing)
 }
@@ -119,7 +120,8 @@ pub fn layout_pending(
 // Where the text of a document's row lies in its text, or a pool's string in `bytes`: nothing, at offset 0, unless document or pool is
 // accepted and has that row.
 pub fn hand_out_span(source: Source<'_>, document: &Document<'_>, what: Handed) -> Part
-    ensures { result ≡ span_of (given source.entry) document.now.rows.now document.now.count document.now.text.now document.now.total what }
+    ensures { result ≡ span_of (given source.entry) document.now.rows.now document.now.count document.now.text.now
+        document.now.total what }
 {
     match what {
         Handed::Text { row } => text_span(document, row),

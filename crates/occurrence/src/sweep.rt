@@ -3,13 +3,15 @@
 ghost use Rattle.std.specs.Prelude.{◌≡◌, ◌+◌, ◌*◌, ◌<◌, ◌≤◌, length};
 ghost use Rattle.pool.specs.Tables.{E};
 ghost use Rattle.occurrence.specs.Parts.{part_of};
-ghost use Rattle.occurrence.specs.Sets.{kept, entry_at, lowered, body_word, last_bit, row_word, row_step, sweep_rows, sweeps, Sweep, Answers};
+ghost use Rattle.occurrence.specs.Sets.{kept, entry_at, lowered, body_word, last_bit};
+ghost use Rattle.occurrence.specs.Sets.{row_word, row_step, sweep_rows, sweeps, Sweep, Answers};
 
 use super::parts::Parts;
 use pool::fields::{EXPR_DEPTH, EXPR_LOOSE};
 use pool::words::Words;
 
-// The words and the lowest bits stand in two arrays, `sets` and `above`: as one of pairs they would take 16 bytes a row for 9, all to be cleared.
+// The words and the lowest bits stand in two arrays, `sets` and `above`: as one of pairs they would take 16 bytes a row for 9, all to be
+// cleared.
 
 // What a table has of a part.
 fn entry_at<T: Copy>(table: &[T], part: Option<usize>, none: T) -> T
@@ -114,7 +116,8 @@ fn answered(words: &Words<'_>, sets: &mut [u64], above: &mut [u8], r: usize, i: 
     sets[r] % 2 == 1
 }
 
-// The same with arrays of N rows: their size is fixed, as nothing is allocated. They stay in a function of their own: whoever asks pays for them only where it comes to a sweep.
+// The same with arrays of N rows: their size is fixed, as nothing is allocated. They stay in a function of their own: whoever asks pays for
+// them only where it comes to a sweep.
 #[inline(never)]
 pub fn swept<const N: usize>(words: &Words<'_>, r: usize, i: usize) -> bool
     requires { (r < E words.now.words.now) × (r < N) × (N < 65537) × (i < 4294967296) }

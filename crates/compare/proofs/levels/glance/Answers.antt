@@ -1,38 +1,36 @@
-use Rattle.std.proofs.Common.{arith, refl}
+use Rattle.std.proofs.Common.{arith}
 use Rattle.pool.specs.declared.kinds.LevelKind.TheVariants.{Zero, Param}
 use Rattle.pool.proofs.RowUnfolds.{level_kind_small}
 use Rattle.compare.proofs.LevelLaws.{one_row, other_kinds, both_zero, branches, names_there, params_are}
-use Rattle.pool.proofs.Standing.{found_kind, levels_one, levels_two}
+use Rattle.pool.proofs.Standing.{found_kind}
 use Rattle.compare.proofs.levels.glance.Goals as goal
 
 pub returns-then-a-b : goal.returns-then-a-b
 returns-then-a-b c = one_row _ c.args.pool.now.sound _ _ c.requires.0 c.requires.1 c.if-a-b.true
 
 pub returns-then-ne : goal.returns-then-ne
-returns-then-ne c =
-    let other = levels_two _ c.args.pool.now.sound _ _ c.requires.0 _ _ c.level_kind-kind.ensures c.level_kind.ensures _ c.ne.ensures c.if-ne.true in
-    other_kinds _ c.args.pool.now.sound _ _ c.requires.0 c.requires.1 _ _ refl refl other
+returns-then-ne c = other_kinds _ c.args.pool.now.sound _ _ c.requires.0 c.requires.1 _ _ c.level_kind-kind.ensures c.level_kind.ensures _ c.ne.ensures c.if-ne.true
 
 pub returns-in-Some-Zero : goal.returns-in-Some-Zero
 returns-in-Some-Zero c =
     let kind = found_kind _ _ _ _ c.level_kind-kind.ensures c.in-Some-Zero.field-0 Zero c.in-Some-Zero.is (rw c.in-Some-Zero.is at c.in-Some-Zero.field-0-is) in
-    both_zero _ c.args.pool.now.sound _ _ c.requires.0 c.requires.1 _ _ refl refl (levels_one _ c.args.pool.now.sound _ _ c.requires.0 _ _ c.level_kind-kind.ensures c.level_kind.ensures _ c.ne.ensures c.if-ne.false) kind
+    both_zero _ c.args.pool.now.sound _ _ c.requires.0 c.requires.1 _ _ c.level_kind-kind.ensures c.level_kind.ensures _ c.ne.ensures c.if-ne.false kind
 
 pub same_name-requires : goal.same_name-requires
 same_name-requires c =
     let kind = found_kind _ _ _ _ c.level_kind-kind.ensures c.in-Some-Param.field-0 Param c.in-Some-Param.is (rw c.in-Some-Param.is at c.in-Some-Param.field-0-is) in
-    names_there _ c.args.pool.now.sound _ _ c.requires.0 c.requires.1 _ _ refl refl (levels_one _ c.args.pool.now.sound _ _ c.requires.0 _ _ c.level_kind-kind.ensures c.level_kind.ensures _ c.ne.ensures c.if-ne.false)
-    (λ e. omega arith) (omega arith) _ _ c.level-name_a.ensures.0 c.level-name_b.ensures.0
+    names_there _ c.args.pool.now.sound _ _ c.requires.0 c.requires.1 _ _ c.level_kind-kind.ensures c.level_kind.ensures _ c.ne.ensures c.if-ne.false kind
+    _ _ c.level-name_a.ensures.0 c.level-name_b.ensures.0
 
 pub returns-in-Some-Param : goal.returns-in-Some-Param
 returns-in-Some-Param c =
     let kind = found_kind _ _ _ _ c.level_kind-kind.ensures c.in-Some-Param.field-0 Param c.in-Some-Param.is (rw c.in-Some-Param.is at c.in-Some-Param.field-0-is) in
-    params_are _ c.args.pool.now.sound _ _ c.requires.0 c.requires.1 _ _ refl refl (levels_one _ c.args.pool.now.sound _ _ c.requires.0 _ _ c.level_kind-kind.ensures c.level_kind.ensures _ c.ne.ensures c.if-ne.false)
-    (λ e. omega arith) (omega arith) _ _ c.level-name_a.ensures.0 c.level-name_b.ensures.0 _ c.same_name.ensures
+    params_are _ c.args.pool.now.sound _ _ c.requires.0 c.requires.1 _ _ c.level_kind-kind.ensures c.level_kind.ensures _ c.ne.ensures c.if-ne.false kind
+    _ _ c.level-name_a.ensures.0 c.level-name_b.ensures.0 _ c.same_name.ensures
 
 pub returns-in_default : goal.returns-in_default
 returns-in_default c =
-    branches _ c.args.pool.now.sound _ _ c.requires.0 c.requires.1 _ _ refl refl (levels_one _ c.args.pool.now.sound _ _ c.requires.0 _ _ c.level_kind-kind.ensures c.level_kind.ensures _ c.ne.ensures c.if-ne.false)
+    branches _ c.args.pool.now.sound _ _ c.requires.0 c.requires.1 _ _ c.level_kind-kind.ensures c.level_kind.ensures _ c.ne.ensures c.if-ne.false
     (λ e. absurd (grind arith)) (grind arith)
 
 -- never, since a checked row has a kind

@@ -1,7 +1,5 @@
-use Rattle.std.proofs.Common.{refl, sym, ◌∙◌}
-use Rattle.pool.specs.Views.{lent}
-use Rattle.pool.proofs.Standing.{exprs_one, exprs_two}
-use Rattle.difference.proofs.WalkLaws.{known_at_once, kinds_at_once, fields_at_once, parts_at_once}
+use Rattle.std.proofs.Common.{sym, ◌∙◌}
+use Rattle.difference.proofs.WalkLaws.{known_at_once, kinds_at_once, one_kind, fields_at_once, parts_at_once}
 use Rattle.difference.proofs.walk.at_once.Goals as goal
 
 pub returns-then-is_plain : goal.returns-then-is_plain
@@ -9,21 +7,17 @@ returns-then-is_plain c =
     known_at_once _ c.args.pool.now.sound _ _ _ _ _ c.requires c.if-known.true (sym c.is_plain.ensures ∙ c.if-is_plain.true)
 
 pub returns-then-ne : goal.returns-then-ne
-returns-then-ne c =
-    kinds_at_once _ c.args.pool.now.sound _ _ _ _ _ c.requires
-    (exprs_two _ c.args.pool.now.sound _ _ c.requires.a_row _ _ c.expr_kind-kind.ensures c.expr_kind.ensures _ c.ne.ensures c.if-ne.true)
+returns-then-ne c = kinds_at_once _ c.args.pool.now.sound _ _ _ _ _ c.requires _ _ c.expr_kind-kind.ensures c.expr_kind.ensures _ c.ne.ensures c.if-ne.true
 
 pub same_fields-requires-clause-same : goal.same_fields-requires-clause-same
-same_fields-requires-clause-same c =
-    let one = exprs_one (lent c.args.pool.now) c.args.pool.now.sound _ _ c.requires.a_row _ _ c.expr_kind-kind.ensures c.expr_kind.ensures _ c.ne.ensures c.if-ne.false in
-    record { a_row = c.requires.a_row; b_row = c.requires.b_row; a_kind = refl; b_kind = one }
+same_fields-requires-clause-same c = one_kind _ c.args.pool.now.sound _ c.args.d c.args.c _ _ c.requires _ _ c.expr_kind-kind.ensures c.expr_kind.ensures _ c.ne.ensures c.if-ne.false
 
 pub returns-then-not-same_fields : goal.returns-then-not-same_fields
 returns-then-not-same_fields c =
-    let one = exprs_one (lent c.args.pool.now) c.args.pool.now.sound _ _ c.requires.a_row _ _ c.expr_kind-kind.ensures c.expr_kind.ensures _ c.ne.ensures c.if-ne.false in
-    fields_at_once _ c.args.pool.now.sound _ _ _ _ _ c.requires one _ c.same_fields.ensures c.if-not-same_fields.true
+    fields_at_once _ c.args.pool.now.sound _ _ _ _ _ c.requires _ _ c.expr_kind-kind.ensures c.expr_kind.ensures _ c.ne.ensures c.if-ne.false
+    _ c.same_fields.ensures c.if-not-same_fields.true
 
 pub returns : goal.returns
 returns c =
-    let one = exprs_one (lent c.args.pool.now) c.args.pool.now.sound _ _ c.requires.a_row _ _ c.expr_kind-kind.ensures c.expr_kind.ensures _ c.ne.ensures c.if-ne.false in
-    parts_at_once _ c.args.pool.now.sound _ _ _ _ _ c.requires one _ c.same_fields.ensures c.if-not-same_fields.false
+    parts_at_once _ c.args.pool.now.sound _ _ _ _ _ c.requires _ _ c.expr_kind-kind.ensures c.expr_kind.ensures _ c.ne.ensures c.if-ne.false
+    _ c.same_fields.ensures c.if-not-same_fields.false

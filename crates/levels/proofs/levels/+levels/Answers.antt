@@ -53,17 +53,20 @@ pp_level-returns-then-is_stopped t c =
 
 pub pp_level-returns-then-eq : goal.pp_level-returns-then-eq
 pp_level-returns-then-eq t c =
-    leaves_as c.put_number.ensures
-    (rw (← c.level_succs-l.ensures.same)
-    (zero_emits (lent c.args.pool.now) c.level_succs-l.result.base (level_row _ c.args.pool.now.sound _ (omega (arith, c.level_succs-l.ensures.low, c.requires.0))) (level_is _ _ c.level_kind.ensures Zero _ c.eq.ensures c.if-eq.true) c.args.outer c.level_succs-l.result.count _ c.requires.1))
+    let p = lent c.args.pool.now in
+    let base = c.level_succs-l.result.base in
+    let row = level_row p c.args.pool.now.sound base (omega (arith, c.level_succs-l.ensures.low, c.requires.0)) in
+    let zero = level_is _ _ c.level_kind.ensures Zero _ c.eq.ensures c.if-eq.true in
+    leaves_as c.put_number.ensures (rw (← c.level_succs-l.ensures.same) (zero_emits p base row zero c.args.outer c.level_succs-l.result.count _ c.requires.1))
 
 pub pp_level-returns : goal.pp_level-returns
 pp_level-returns t c =
+    let p = lent c.args.pool.now in
+    let base = c.level_succs-l.result.base in
+    let row = level_row p c.args.pool.now.sound base (omega (arith, c.level_succs-l.ensures.low, c.requires.0)) in
+    let other = level_not _ _ c.level_kind.ensures Zero _ c.eq.ensures c.if-eq.false in
     leaves_as c.put_plus.ensures
-    (rw (
-      ← c.level_succs-l.ensures.same,
-      plus_is (lent c.args.pool.now) c.level_succs-l.result.base (level_row _ c.args.pool.now.sound _ (omega (arith, c.level_succs-l.ensures.low, c.requires.0))) (level_not _ _ c.level_kind.ensures Zero _ c.eq.ensures c.if-eq.false) c.level_succs-l.ensures.last c.level_succs-l.result.count,
-    ))
+    (rw (← c.level_succs-l.ensures.same, plus_is p base row other c.level_succs-l.ensures.last c.level_succs-l.result.count))
 
 pub pp_max-pp_level-requires : goal.pp_max-pp_level-requires
 pp_max-pp_level-requires t c =
