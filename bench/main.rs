@@ -188,7 +188,7 @@ fn pool(n: usize) -> Pool {
                 (d, l) = (1 + depth[a].max(depth[b]).max(depth[c]), loose[b].max(loose[c]).max(loose[a].saturating_sub(1)));
             }
             7 => {
-                (r[1], r[2], r[3]) = (name, (i % 65535) as u32, a as u32);
+                (r[1], r[2], r[3]) = (name, i as u32, a as u32);
                 (d, l) = (1 + depth[a], loose[a]);
             }
             8 => {

@@ -3,6 +3,7 @@
     compare.py [--prints N] [--seed S] [--letters] [--no-corpus | --corpus-alone] [--no-rust] [--no-product]
 """
 import argparse
+import copy
 import random
 import sys
 import time
@@ -181,6 +182,41 @@ def directed_prints(subjects, tally):
         batch += [expected(pool, rust.Request(mode, root, indent, width, area, words)) for width in (100, 14)]
     tally.figures["directed prints"] = len(batch)
     judge_prints(subjects, batch, tally)
+
+
+def one_higher(before, after):
+    """How many numbers .65535 of the one text are .65536 in the other; None if the two differ otherwise."""
+    changed = [i for i, (x, y) in enumerate(zip(before, after)) if x != y]
+    good = len(before) == len(after) and all(before[i - 5:i + 1] == b".65535" and after[i:i + 1] == b"6" for i in changed)
+    return len(changed) if good else None
+
+
+def prints_with_index(case, index, tally):
+    """The model's prints of a case's trees with this index at each of their projections; trees without one are left out."""
+    changed = copy.copy(case)
+    changed.trees = [(mode, comparisons.with_index(mode, tree, index)) for mode, tree in case.trees if comparisons.has_projection(mode, tree)]
+    area, words, roots = changed.pool((True, False, None)[case.seed % 3])
+    pool = model.Pool(area, words)
+    tally.judge(pool.fault == (0, 0), "seed", case.seed, "check gives", pool.fault)
+    return [expected(pool, rust.Request(mode, root, 2, (0, 30, 120)[case.seed % 3], area, words)) for mode, root in roots]
+
+
+def last_projections(subjects, seed, count, tally):
+    """The last index at each projection, by model and product, and the one before it there, by the Rust too: it cannot print the last."""
+    cases = [Case((seed + 1) * 1000003 + number) for number in range(count)]
+    within = [e for case in cases for e in prints_with_index(case, model.LAST_PROJECTION - 1, tally)]
+    last = [e for case in cases for e in prints_with_index(case, model.LAST_PROJECTION, tally)]
+    for one, other in zip(within, last):
+        if one.refusal or other.refusal or one.rows != other.rows:
+            tally.judge(one.refusal and one.refusal == other.refusal, "last index:", about(other.request), one.refusal, other.refusal)
+            continue
+        changed = one_higher(one.laid.listing, other.laid.listing)
+        # the binder types of a declaration's opened value are not printed, and a projection may stand in them alone
+        tally.judge(changed or changed == 0 and one.request.mode == 1, "last index:", about(other.request), other.laid.listing, one.laid.listing)
+        tally.figures["numbers .65536, which are .65535 with the index before"] += changed or 0
+    tally.figures["prints with the last index, and as many with the one before"] = len(last)
+    judge_prints(subjects, within, tally)
+    judge_prints(subjects._replace(published=None), last, tally)
 
 
 def letters(subjects, tally):
@@ -387,6 +423,7 @@ def compare(o, subjects, tally):
         fixed_inputs(subjects, tally)
         directed_prints(subjects, tally)
         random_prints(subjects, o.seed, o.prints, tally)
+        last_projections(subjects, o.seed, min(400, o.prints), tally)
         random_layouts(subjects, o.seed, min(1500, o.prints), tally)
         random_comparisons(subjects, o.seed, min(1500, o.prints), tally)
     if o.letters:

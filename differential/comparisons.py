@@ -177,10 +177,31 @@ def places(tree, at=()):
         yield from places(tree[word], at + (word,))
 
 
+def part_at(tree, place):
+    for word in place:
+        tree = tree[word]
+    return tree
+
+
 def with_part(tree, place, change):
     if not place:
         return change(tree)
     return tree[:place[0]] + (with_part(tree[place[0]], place[1:], change),) + tree[place[0] + 1:]
+
+
+def has_projection(mode, tree):
+    """Of an expression, or of a declaration in mode 1."""
+    return with_index(mode, tree, 0) != with_index(mode, tree, 1)
+
+
+def with_index(mode, tree, index):
+    """The tree of an expression, or of a declaration in mode 1, with this index at each of its projections."""
+    if mode == 1:
+        return tree[:3] + tuple(t and with_index(0, t, index) for t in tree[3:])
+    for place in places(tree):
+        if part_at(tree, place)[0] == "proj":
+            tree = with_part(tree, place, lambda part: part[:2] + (index,) + part[3:])
+    return tree
 
 
 def other_name(r, name):
@@ -215,7 +236,7 @@ def other_row(r, tree):
     if kind == "let":
         return r.choice((("let", other_name(r, tree[1])) + tree[2:], tree[:5] + (1 - tree[5],)))
     if kind == "proj":
-        return r.choice((("proj", other_name(r, tree[1])) + tree[2:], tree[:2] + ((tree[2] + 1) % 65535,) + tree[3:]))
+        return r.choice((("proj", other_name(r, tree[1])) + tree[2:], tree[:2] + ((tree[2] + 1) % (model.LAST_PROJECTION + 1),) + tree[3:]))
     return ("nat", tree[1] + "1" if tree[1] != "0" else "1") if kind == "nat" else ("str", tree[1] + r.choice("ab"))
 
 

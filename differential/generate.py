@@ -108,6 +108,7 @@ class Generator:
             name, type, value, body = self.name(), self.expr(scope, third), self.expr(scope, third), self.expr(scope + 1, third)
             return ("let", name, type, value, body, self.random.randrange(2))
         if r < 0.97:
+            # 65,534 is the greatest index that the Rust prints
             return ("proj", self.name(), self.pick((0, 0, 1, 2, 9, 65534)), self.expr(scope, budget - 1))
         return self.leaf(scope)
 

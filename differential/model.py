@@ -24,6 +24,7 @@ STRINGS, NAMES, LEVELS, LISTS, WORDS, EXPRS, DECLARS = range(7)
 ROW_WORDS = (2, 4, 3, 2, 1, 8, 5)
 VAR, SORT, CONST, APP, PI, LAM, LET, PROJ, NAT, STR = range(10)
 COUNT_LIMIT, BYTE_LIMIT = 65536, 16777216
+LAST_PROJECTION = 65535
 DOCUMENT_ROWS, DOCUMENT_BYTES, STACK_LIMIT = 16384, 65536, 1024
 
 # "variable (index); sort (level); constant (name, list) ...": the table each field refers to, "n" a number, "t" a string.
@@ -139,7 +140,7 @@ class Pool:
 
     def expr_row(self, row, fields):
         '''"kind, five fields, depth, loose."  "Depth is 1 at a leaf, else one more than the deepest child in its table: at most 256".
-        "Variable index at most 4,095, projection index at most 65,534."'''
+        "Variable index at most 4,095".  P8: "Index 65,535 is to print `.65536`, and check accepts it; 65,536 is refused 4."'''
         kind, depth, loose = fields[0], fields[6], fields[7]
         need(kind <= 9)
         shape = EXPR_FIELDS[kind]
@@ -148,7 +149,7 @@ class Pool:
         need(kind != VAR or values[0] <= 4095)
         need(kind not in (PI, LAM) or values[1] <= 3)
         need(kind != LET or values[4] <= 1)
-        need(kind != PROJ or values[1] <= 65534)
+        need(kind != PROJ or values[1] <= LAST_PROJECTION)
         need(kind != NAT or digits(values[0]))
         node = self.node(EXPRS, kind, values, row)
         need(node.depth == depth <= 256 and node.loose == loose)

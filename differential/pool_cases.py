@@ -122,7 +122,9 @@ CHANGED = [
     ("application: loose one too low", (4, 3), {(EXPRS, 3, 7): 5}),
 
     ("projection: no such name", (4, 7), {(EXPRS, 7, 1): 3}),
-    ("projection: index 65,535", (4, 7), {(EXPRS, 7, 2): 65535}),
+    ("projection: index 65,535", (0, 0), {(EXPRS, 7, 2): 65535}),
+    ("projection: index 65,536", (4, 7), {(EXPRS, 7, 2): 65536}),
+    ("projection: index 2^32 - 1", (4, 7), {(EXPRS, 7, 2): MOST}),
     ("projection: the structure is itself", (4, 7), {(EXPRS, 7, 3): 7}),
     ("projection: a field more", (4, 7), {(EXPRS, 7, 4): 1}),
     ("projection: the last field", (4, 7), {(EXPRS, 7, 5): 1}),

@@ -100,7 +100,7 @@ def names_levels_lists():
 
 def expressions_declarations():
     for kind, word, value in ((0, 1, 4096), (0, 2, 1), (0, 6, 2), (0, 7, 4), (1, 1, 99), (2, 2, 99), (4, 2, 4), (4, 3, 99), (4, 5, 1),
-                              (6, 5, 2), (6, 7, 2), (7, 2, 65535), (7, 6, 4), (8, 1, 0), (9, 1, 99), (9, 5, 1)):
+                              (6, 5, 2), (6, 7, 2), (7, 2, 65536), (7, 2, 2 ** 32 - 1), (7, 6, 4), (8, 1, 0), (9, 1, 99), (9, 5, 1)):
         at = row_of(kind)
         yield "expression of kind %d with word %d = %d" % (kind, word, value), changed(EXPRS, at, word, value), (4, at)
     call, at = with_row(EXPRS, (10, 0, 0, 0, 0, 0, 1, 0))
@@ -138,6 +138,8 @@ def prints():
     yield "indent 65", called(ARROW, indent=65), (6, 0)
     yield "width 65,536", called(ARROW, width=65536), (6, 0)
     yield "indent 64, width 65,535", called(ARROW, indent=64, width=65535), (0, 0)
+    for title, last, expected in (("the last projection", 65535, (0, 0)), ("one past the last projection", 65536, (4, 1))):
+        yield title, called(("proj", ("S",), last, const("s")), 7 * 9, 8, 8), expected
     yield "a row area a word short", called(ARROW, rows=7 * 17 - 1), (20, 16)
     yield "a row area of six words", called(ARROW, rows=6), (20, 0)
     yield "a text area a byte short", called(ARROW, text=11), (21, 13)

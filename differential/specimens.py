@@ -162,7 +162,7 @@ def beyond_limits():
         difference("a constant's list of 32,768 levels", many, "@C", None),
         difference("1,024 names in force", nested_chains((255, 254, 253, 252, 10)), "", ""),
         difference("1,025 names in force", nested_chains((255, 254, 253, 252, 11)), None, "", refusal=7),
-        difference("projection 65,535", ("proj", ("S",), 65535, const("s")), None, None, refusal=4),
+        difference("projection 65,535", ("proj", ("S",), 65535, const("s")), "@s.65536", None),
         difference("depth 257", deep(257), None, "@f (" * 255 + "@f @c" + ")" * 255, refusal=4, width=65535),
         difference("variable 4,096", var(4096), None, "4096", refusal=4),
         difference("a name of 64 components", ("const", ("a",) * 64, ()), None, "@" + ".".join("a" * 64), refusal=4),

@@ -9,7 +9,7 @@ const EXPRESSIONS: [&str; 10] = [
     "a pi has a name row that exists, a style of at most 3, and two lower expression rows",
     "a lambda has a name row that exists, a style of at most 3, and two lower expression rows",
     "a let has a name row that exists, three lower expression rows, and nondep of at most 1",
-    "a projection has a name row that exists, an index of at most 65,534, and a lower expression row",
+    "a projection has a name row that exists, an index of at most 65,535, and a lower expression row",
     "a natural has a string row that exists, of one or more digits without a leading zero unless it is 0",
     "a string literal has a string row that exists",
 ];

@@ -191,7 +191,7 @@ fn kinds() {
 }
 
 /// Pairs that differ in one field that is no expression.
-const FIELDS: [(&str, &str); 44] = [
+const FIELDS: [(&str, &str); 45] = [
     ("#0", "#1"),
     ("#0", "#4095"),
     ("(Sort 0)", "(Sort 1)"),
@@ -230,7 +230,8 @@ const FIELDS: [(&str, &str); 44] = [
     ("(let (x : @A := @a) @b)", "(have (x : @A := @a) @b)"),
     ("(proj S 0 @s)", "(proj T 0 @s)"),
     ("(proj S 0 @s)", "(proj S.T 0 @s)"),
-    ("(proj S 0 @s)", "(proj S 65534 @s)"),
+    ("(proj S 0 @s)", "(proj S 65535 @s)"),
+    ("(proj S 65534 @s)", "(proj S 65535 @s)"),
     ("0", "1"),
     ("1", "10"),
     ("\"\"", "\"a\""),

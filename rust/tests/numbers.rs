@@ -8,7 +8,7 @@ use guarded::Guarded;
 use limits::nested_chains;
 use tilusorgu::calls::{self, MOST_ROW_WORDS, MOST_TEXT_BYTES};
 use tilusorgu::text::{pack, Packed, Sharing};
-use tilusorgu::{Counts, Given, Lent, Pool, Refusal, Root, Sizes};
+use tilusorgu::{Comparison, Counts, Given, Lent, Pool, Refusal, Root, Sizes};
 
 /// `@Nat → @Nat`: 17 rows, 12 text bytes, 13 listed.
 const ARROW: &str = "(define e (forall (n : @Nat) @Nat)) (axiom k $e)";
@@ -139,6 +139,35 @@ fn number_4_and_its_table() {
         let pool = packed(text).pool;
         assert_pool(&pool, refusal(4, place));
         assert!(pool.explain(refusal(4, place)).contains(words), "{}", pool.explain(refusal(4, place)));
+    }
+}
+
+/// The last projection prints its index and 1, five digits; the next one is refused by every call that is given the pool, or hands out nothing.
+#[test]
+fn last_projection() {
+    let pool = |index: u32| packed(&format!("(axiom k (proj S {index} @s))")).pool;
+    for (index, text) in [(65_534, "@s.65535"), (65_535, "@s.65536")] {
+        let pool = pool(index);
+        assert_eq!(pool.check(), Ok(()));
+        assert_eq!(pool.compare(1, 1), Ok(Comparison::Equal));
+        assert_eq!(calls::string_part(&pool.bytes, &pool.words, 0), b"k");
+        let exact = [7 * 9, 8, 8];
+        for (width, fit_tests) in [(0, 2), (7, 2), (8, 1), (65_535, 1)] {
+            let counts = Counts { document_rows: 9, text_bytes: 8, listing_length: 8, lines: 1, longest_row: 8, fit_tests };
+            assert_eq!(judged(&pool, expr(), Sizes { indent: 2, width }, exact), Ok(counts));
+        }
+        for (number, lengths) in [(20, [7 * 8, 8, 8]), (21, [7 * 9, 7, 8]), (22, [7 * 9, 8, 7])] {
+            assert_eq!(judged(&pool, expr(), Sizes::default(), lengths).unwrap_err().number, number);
+        }
+        assert_eq!(pool.list_expr(1, Sizes::default()).unwrap().text, text);
+        assert_eq!(pool.list_declar(0, Sizes::default()).unwrap().text, format!("axiom k : {text}"));
+    }
+    for index in [65_536, 131_071, 1 << 31, u32::MAX] {
+        let pool = pool(index);
+        assert_pool(&pool, refusal(4, 1));
+        assert_eq!(pool.compare(0, 0), Err(refusal(4, 1)));
+        assert_eq!(calls::string_part(&pool.bytes, &pool.words, 0), b"");
+        assert!(pool.explain(refusal(4, 1)).contains("an index of at most 65,535"), "{}", pool.explain(refusal(4, 1)));
     }
 }
 

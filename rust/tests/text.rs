@@ -34,6 +34,7 @@ fn levels() {
 #[test]
 fn terms() {
     assert_eq!(listed("(axiom k (@f #0 12 \"q\\n\" (proj S 1 @s)))"), "axiom k : @f 0 12 \"q\n\" @s.2");
+    assert_eq!(listed("(axiom k (proj S 0 (proj S 65535 @s)))"), "axiom k : @s.65536.1");
     assert_eq!(listed("(axiom k (let (x : @Nat := 1) (have (y : @Nat := x) (@P x y))))"), "axiom k : let x : @Nat := 1; let y : @Nat := x; @P x y");
     assert_eq!(
         listed("(axiom k (fun {a : @A} {{b : @B}} [c : @C] (_ : @D) (a #0)))"),
@@ -143,7 +144,8 @@ fn past_the_limits() {
         "(define e #4096)",
         "(define e #4294967295)",
         "(define e 007)",
-        "(define e (proj S 65535 @s))",
+        "(define e (proj S 65536 @s))",
+        "(define e (proj S 4294967295 @s))",
         "(level 64)",
         "(name a.b.«\u{1}».18446744073709551615) (define e (Sort 64))",
     ] {

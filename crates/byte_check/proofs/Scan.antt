@@ -12,6 +12,12 @@ use Rattle.basics.proofs.Booleans.{and-true}
 use Rattle.pool.specs.Rules.{all_digits, natural, is_digit}
 use Rattle.byte_check.specs.Scan.{first_bad, found}
 
+-- tests that agree on the rows of a table find the same row
+pub bad_agrees : (f g : ℕ → Bool) (left r : ℕ) → ((k : ℕ) → r ≤ k → k < r + left → f k ≡ g k) → first_bad f left r ≡ first_bad g left r
+unfolding first_bad
+bad_agrees f g zero r h = refl
+bad_agrees f g (suc left) r h = rw (h r (omega arith) (omega arith), bad_agrees f g left (suc r) (λ k p q. h k (omega arith) (omega arith)))
+
 -- a table of so many rows, each from row r on
 module _ (ok : ℕ → Bool) where
   -- where all rows before i are right, the scan from row r on goes on at row i

@@ -9,7 +9,7 @@ use Rattle.std.specs.List.{fold}
 use Rattle.basics.proofs.Booleans.{and-true}
 use Rattle.pool.specs.Tables.{Pool, expr_word}
 use Rattle.pool.specs.Kinds.{ExprKind, expr_kind}
-use Rattle.pool.specs.Rules.{unused, expr_fields_ok, depth_by, loose_by, expr_ok}
+use Rattle.pool.specs.Rules.{unused, expr_fields_ok, depth_by, loose_by, expr_ok_with, expr_ok}
 use Rattle.expr_check.specs.declared.kinds.Asked.{Asked}
 use Rattle.expr_check.specs.Fields.{asked_by}
 
@@ -28,7 +28,7 @@ module _ (p : Pool) (r : ℕ) where
   as_asked w = eqb (expr_word p.words r 6) w.depth && (leb (expr_word p.words r 6) 256 && eqb (expr_word p.words r 7) w.loose)
 
   pub nothing_asked : None ≡ asked_by p r kind → false ≡ expr_ok p r
-  unfolding expr_ok
+  unfolding expr_ok_with
   nothing_asked e = by (expr_fields_ok p r kind) refl
     where
       by : (b : Bool) → expr_fields_ok p r kind ≡ b → false ≡ expr_ok p r
@@ -36,7 +36,7 @@ module _ (p : Pool) (r : ℕ) where
       by true q = let d = rw q at e in cc
 
   pub so_asked : (w : Asked) → Some w ≡ asked_by p r kind → as_asked w ≡ expr_ok p r
-  unfolding expr_ok
+  unfolding expr_ok_with
   so_asked w e = by (expr_fields_ok p r kind) refl
     where
       by : (b : Bool) → expr_fields_ok p r kind ≡ b → as_asked w ≡ expr_ok p r

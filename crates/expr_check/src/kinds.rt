@@ -1,5 +1,5 @@
 // What each kind of expression row asks of its depth and loose words; nothing where its fields are not right.
-#![tactic(auto, unfolding(pool::specs::Rules::expr_fields_ok, pool::specs::Rules::depth_by, pool::specs::Rules::loose_by))]
+#![tactic(auto, unfolding(pool::specs::Rules::expr_fields_ok_with, pool::specs::Rules::depth_by, pool::specs::Rules::loose_by))]
 
 ghost use Rattle.std.specs.Prelude.{◌≡◌, ◌+◌, ◌-◌, ◌&&◌, max, true, eqb, fold, []};
 ghost use Rattle.pool.specs.Kinds.{expr_kind, varᵏ, sortᵏ, constᵏ, appᵏ, piᵏ, lamᵏ, letᵏ, projᵏ, natᵏ, strᵏ};
@@ -19,6 +19,9 @@ use pool::fields::{
 use pool::kinds::ExprKind;
 use pool::pool::Pool;
 use pool::words::Words;
+
+// The greatest index of a projection.
+const LAST_PROJECTION: usize = 65535;
 
 // What the depth and loose words of a row have to be, from those of lower rows.
 #[derive(Clone, Copy)]
@@ -153,7 +156,7 @@ fn ask_proj(pool: &Pool<'_>, r: usize, row: &[usize; 8]) -> Option<Asked>
 {
     let words = &pool.words;
     let structure = row[PROJ_STRUCTURE];
-    let rest = (row[PROJ_INDEX] <= 65534) & ((structure < r) & unused(&row[4..6]));
+    let rest = (row[PROJ_INDEX] <= LAST_PROJECTION) & ((structure < r) & unused(&row[4..6]));
     let right = (row[PROJ_NAME] < pool.names.tables.names) & rest;
     let depth = 1 + words.expr(structure, EXPR_DEPTH);
     let loose = words.expr(structure, EXPR_LOOSE);
@@ -179,7 +182,7 @@ fn ask_string(pool: &Pool<'_>, r: usize, row: &[usize; 8]) -> Option<Asked>
 }
 
 // What each kind asks: one choice, since a choice that is not foreseen costs as much as all of a row's tests.
-#[tactic(auto, unfolding(pool::specs::Kinds::expr_kind, pool::specs::Rules::expr_fields_ok))]
+#[tactic(auto, unfolding(pool::specs::Kinds::expr_kind, pool::specs::Rules::expr_fields_ok_with))]
 #[inline(always)]
 pub(crate) fn ask(pool: &Pool<'_>, marks: &[u8], r: usize, row: &[usize; 8]) -> Option<Asked>
     requires { row.now ≡ row_of (read pool.now).words r }

@@ -15,7 +15,7 @@ use Rattle.declarations.specs.Roots.{row_of, roots_in, root_doc}
 use Rattle.lister.specs.declared.error.PrintError.TheVariants as errors
 use Rattle.lister.specs.Answers.{Answer, of_pool}
 use Rattle.lister.specs.Source.{Source, pool_of, judged}
-use Rattle.lister.specs.Prints.{Areas, Outcome, has_root, sizes_ok, print_doc, print, checked, untouched}
+use Rattle.lister.specs.Prints.{Areas, Outcome, has_root, sizes_ok, print_doc, print_with, print, checked, untouched}
 use Rattle.lister.specs.Stages.{Begins}
 
 -- an answer, and the areas as they were
@@ -25,24 +25,24 @@ kept answer areas = record { answer = answer; areas = areas }
 module _ (source : Source) (root : Root) (indent width : ℕ) (areas : Areas) where
   -- 1 to 4
   pub pool_refused : (e : PoolError) → judged source ≡ Err e → kept (Err (of_pool e)) areas ≡ print source root indent width areas
-  unfolding print checked untouched
+  unfolding print_with checked untouched
   pool_refused e j = rw j
 
   module _ (j : judged source ≡ Ok tt) where
     -- 5
     pub root_missing : has_root root (pool_of source) ≡ false → kept (Err errors.Root) areas ≡ print source root indent width areas
-    unfolding print checked untouched
+    unfolding print_with checked untouched
     root_missing h = rw (j, h)
 
     module _ (h : has_root root (pool_of source) ≡ true) where
       -- 6
       pub size_refused : sizes_ok indent width ≡ false → kept (Err errors.Size) areas ≡ print source root indent width areas
-      unfolding print checked untouched
+      unfolding print_with checked untouched
       size_refused s = rw (j, h, s)
 
       pub print_begins : sizes_ok indent width ≡ true
           → print_doc (root_doc root (indented indent) (pool_of source)) width areas ≡ print source root indent width areas
-      unfolding print checked
+      unfolding print_with checked
       print_begins s = rw (j, h, s)
 
 -- a print that begins has all that it asks

@@ -6,12 +6,13 @@ use Rattle.document.specs.Walk.{Marked, unmarked, Progress, going, stopped, walk
 use Rattle.layout.specs.Call as layout
 use Rattle.pool_check.specs.declared.PoolError.{PoolError}
 use Rattle.pool.specs.Tables.{Pool}
+use Rattle.pool.specs.Rules.{last_projection}
 use Rattle.binders.specs.Options.{indented}
 use Rattle.declarations.specs.declared.listing.Root.{Root}
 use Rattle.declarations.specs.declared.listing.Root.TheVariants.{Expr, Declar}
 use Rattle.declarations.specs.Roots.{row_of, roots_in, root_doc}
 use Rattle.lister.specs.Answers.{Answer, of_pool, stop_answer, refusal, of_laid}
-use Rattle.lister.specs.Source.{Source, pool_of, judged}
+use Rattle.lister.specs.Source.{Source, pool_of, judged_with}
 
 -- "the lent areas are those a call may write"
 pub record Areas : Type 0 where
@@ -81,11 +82,14 @@ checked (Ok _) present sizes print areas =
     cond present (cond sizes print (untouched (refusal 6 0) areas)) (untouched (refusal 5 0) areas)
 checked (Err error) present sizes print areas = untouched (Err (of_pool error)) areas
 
--- the print of a root
-unfoldable pub print : Source → Root → ℕ → ℕ → Areas → Outcome
-print source root indent width areas =
+-- the print of a root; with a greatest index of a projection
+unfoldable pub print_with : ℕ → Source → Root → ℕ → ℕ → Areas → Outcome
+print_with last source root indent width areas =
     let printed : Outcome = print_doc (root_doc root (indented indent) (pool_of source)) width areas in
-    checked (judged source) (has_root root (pool_of source)) (sizes_ok indent width) printed areas
+    checked (judged_with last source) (has_root root (pool_of source)) (sizes_ok indent width) printed areas
+
+abbrev pub print : Source → Root → ℕ → ℕ → Areas → Outcome
+print = print_with last_projection
 
 -- of an expression, and of a declaration
 abbrev pub print_expr : Source → ℕ → ℕ → ℕ → Areas → Outcome

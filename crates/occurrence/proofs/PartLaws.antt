@@ -38,7 +38,7 @@ module _ (p : Pool) (sound : Sound p) (r : ℕ) (h : r < E p.words) where
   first_lower =
       ten (λ (k : ℕ). w 0 ≡ k → first_part p.words r k ≤ r) (λ e. omega arith) (λ e. omega arith) (λ e. omega arith)
       (λ e. omega (arith, (app_ok p sound r h e).0)) (λ e. omega (arith, (pi_ok p sound r h e).2)) (λ e. omega (arith, (lam_ok p sound r h e).2))
-      (λ e. omega (arith, (let_ok p sound r h e).1)) (λ e. omega (arith, (proj_ok p sound r h e).2)) (λ e. omega arith) (λ e. omega arith)
+      (λ e. omega (arith, (let_ok p sound r h e).1)) (λ e. omega (arith, (proj_ok p sound r h e).1)) (λ e. omega arith) (λ e. omega arith)
       (w 0) (kind_small p sound r h) refl
 
   pub second_lower : second_part p.words r (w 0) ≤ r

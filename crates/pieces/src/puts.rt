@@ -125,9 +125,9 @@ pub fn end_app(sink: &mut Sink<'_>, indent: u32, wrapped: bool)
     close_paren(sink, wrapped);
 }
 
-// After the structure of a projection; fields are counted from 1.
+// After the structure of a projection, whose index is a pool's word; fields are counted from 1.
 pub fn end_proj(sink: &mut Sink<'_>, i: usize)
-    requires { i ≤ 65534 }
+    requires { i < 4294967296 }
     ensures { Leaves sink.old sink.new (end_proj i) }
 {
     sink.put_group();

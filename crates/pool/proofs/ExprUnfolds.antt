@@ -10,7 +10,7 @@ use Rattle.pool.specs.Tables.{Pool, S, N, L, K, E, expr_word, string_at}
 use Rattle.pool.specs.Kinds.{ExprKind, expr_kind, varᵏ, sortᵏ, constᵏ, appᵏ, piᵏ, lamᵏ, letᵏ, projᵏ, natᵏ, strᵏ, noExprᵏ}
 use Rattle.pool.specs.Tree.{Expr, var, sort, const, app, pi, lam, letᵉ, proj, nat, str, depth, loose, shape}
 use Rattle.pool.specs.Unfold.{name_at, level_at, list_at, expr_node, expr_to, expr_at}
-use Rattle.pool.specs.Rules.{expr_fields_ok, depth_by, loose_by, expr_ok}
+use Rattle.pool.specs.Rules.{last_projection, expr_fields_ok_with, expr_fields_ok, depth_by, loose_by, expr_ok_with}
 use Rattle.pool.specs.Sound.{Sound}
 use Rattle.basics.proofs.Booleans.{and_left, and_right, false-true}
 use Rattle.pool.proofs.TreeLaws.{label}
@@ -23,15 +23,15 @@ module _ (p : Pool) (r : ℕ) where
   word k = expr_word p.words r k
 
   pub var_fields : expr_fields_ok p r varᵏ ≡ true → word 1 ≤ 4095
-  unfolding expr_fields_ok
+  unfolding expr_fields_ok_with
   var_fields ok = leb-true (word 1) 4095 (and_left (leb (word 1) 4095) _ ok)
 
   pub sort_fields : expr_fields_ok p r sortᵏ ≡ true → word 1 < L p.words
-  unfolding expr_fields_ok
+  unfolding expr_fields_ok_with
   sort_fields ok = ltb-true (word 1) (L p.words) (and_left (ltb (word 1) (L p.words)) _ ok)
 
   pub const_fields : expr_fields_ok p r constᵏ ≡ true → (word 1 < N p.names) × (word 2 < K p.words)
-  unfolding expr_fields_ok
+  unfolding expr_fields_ok_with
   const_fields ok =
       let ok2 = and_right (ltb (word 1) (N p.names)) _ ok in (
         ltb-true (word 1) (N p.names) (and_left (ltb (word 1) (N p.names)) _ ok),
@@ -39,13 +39,13 @@ module _ (p : Pool) (r : ℕ) where
       )
 
   pub app_fields : expr_fields_ok p r appᵏ ≡ true → (word 1 < r) × (word 2 < r)
-  unfolding expr_fields_ok
+  unfolding expr_fields_ok_with
   app_fields ok =
       let ok2 = and_right (ltb (word 1) r) _ ok in
       (ltb-true (word 1) r (and_left (ltb (word 1) r) _ ok), ltb-true (word 2) r (and_left (ltb (word 2) r) _ ok2))
 
   pub pi_fields : expr_fields_ok p r piᵏ ≡ true → (word 1 < N p.names) × (word 2 < 4) × (word 3 < r) × (word 4 < r)
-  unfolding expr_fields_ok
+  unfolding expr_fields_ok_with
   pi_fields ok =
       let ok2 = and_right (ltb (word 1) (N p.names)) _ ok in
       let ok3 = and_right (ltb (word 2) 4) _ ok2 in
@@ -57,11 +57,11 @@ module _ (p : Pool) (r : ℕ) where
       )
 
   pub lam_fields : expr_fields_ok p r lamᵏ ≡ true → (word 1 < N p.names) × (word 2 < 4) × (word 3 < r) × (word 4 < r)
-  unfolding expr_fields_ok
+  unfolding expr_fields_ok_with
   lam_fields ok = pi_fields ok
 
   pub let_fields : expr_fields_ok p r letᵏ ≡ true → (word 1 < N p.names) × (word 2 < r) × (word 3 < r) × (word 4 < r) × (word 5 < 2)
-  unfolding expr_fields_ok
+  unfolding expr_fields_ok_with
   let_fields ok =
       let ok2 = and_right (ltb (word 1) (N p.names)) _ ok in
       let ok3 = and_right (ltb (word 2) r) _ ok2 in
@@ -73,27 +73,24 @@ module _ (p : Pool) (r : ℕ) where
         ltb-true (word 5) 2 (and_right (ltb (word 4) r) _ ok4),
       )
 
-  pub proj_fields : expr_fields_ok p r projᵏ ≡ true → (word 1 < N p.names) × (word 2 ≤ 65534) × (word 3 < r)
-  unfolding expr_fields_ok
+  pub proj_fields : expr_fields_ok p r projᵏ ≡ true → (word 1 < N p.names) × (word 3 < r)
+  unfolding expr_fields_ok_with
   proj_fields ok =
       let ok2 = and_right (ltb (word 1) (N p.names)) _ ok in
-      let ok3 = and_right (leb (word 2) 65534) _ ok2 in (
-        ltb-true (word 1) (N p.names) (and_left (ltb (word 1) (N p.names)) _ ok),
-        leb-true (word 2) 65534 (and_left (leb (word 2) 65534) _ ok2),
-        ltb-true (word 3) r (and_left (ltb (word 3) r) _ ok3),
-      )
+      let ok3 = and_right (leb (word 2) last_projection) _ ok2 in
+      (ltb-true (word 1) (N p.names) (and_left (ltb (word 1) (N p.names)) _ ok), ltb-true (word 3) r (and_left (ltb (word 3) r) _ ok3))
 
   pub nat_fields : expr_fields_ok p r natᵏ ≡ true → word 1 < S p.names
-  unfolding expr_fields_ok
+  unfolding expr_fields_ok_with
   nat_fields ok = ltb-true (word 1) (S p.names) (and_left (ltb (word 1) (S p.names)) _ ok)
 
   pub str_fields : expr_fields_ok p r strᵏ ≡ true → word 1 < S p.names
-  unfolding expr_fields_ok
+  unfolding expr_fields_ok_with
   str_fields ok = ltb-true (word 1) (S p.names) (and_left (ltb (word 1) (S p.names)) _ ok)
 
   -- a row that keeps its rules is of one of the ten kinds
   pub kind_known : expr_fields_ok p r noExprᵏ ≡ true → ⊥
-  unfolding expr_fields_ok
+  unfolding expr_fields_ok_with
   kind_known ok = false-true ok
 
 -- ---- unfolding does not depend on the bound
@@ -108,7 +105,7 @@ expr_node_lem p f g i appᵏ ok e = let w = app_fields p i ok in ap₂ app (e _ 
 expr_node_lem p f g i piᵏ ok e = let w = pi_fields p i ok in rw (e _ w.2, e _ w.3)
 expr_node_lem p f g i lamᵏ ok e = let w = lam_fields p i ok in rw (e _ w.2, e _ w.3)
 expr_node_lem p f g i letᵏ ok e = let w = let_fields p i ok in rw (e _ w.1, e _ w.2, e _ w.3)
-expr_node_lem p f g i projᵏ ok e = let w = proj_fields p i ok in rw (e _ w.2)
+expr_node_lem p f g i projᵏ ok e = let w = proj_fields p i ok in rw (e _ w.1)
 expr_node_lem p f g i natᵏ ok e = refl
 expr_node_lem p f g i strᵏ ok e = refl
 expr_node_lem p f g i noExprᵏ ok e = refl
@@ -129,7 +126,7 @@ expr_unfolds_kept p n kept r h =
     expr_node_lem p (expr_to r p) (expr_at p) r _ (kept r h) (λ j l. expr_bound p n kept r (suc j) j (omega arith) l (omega arith))
 
 pub expr_kept : (p : Pool) → Sound p → ExprsKept p (E p.words)
-unfolding expr_ok
+unfolding expr_ok_with
 expr_kept p sound j h = and_left (expr_fields_ok p j (expr_kind (expr_word p.words j 0))) _ (sound.exprs j h)
 
 pub expr_unfolds : (p : Pool) → Sound p → (r : ℕ) → r < E p.words
@@ -149,7 +146,7 @@ node-depth p r appᵏ ok e = let w = app_fields p r ok in one-add _ ∙ ap suc (
 node-depth p r piᵏ ok e = let w = pi_fields p r ok in one-add _ ∙ ap suc (ap₂ max (e _ w.2) (e _ w.3))
 node-depth p r lamᵏ ok e = let w = lam_fields p r ok in one-add _ ∙ ap suc (ap₂ max (e _ w.2) (e _ w.3))
 node-depth p r letᵏ ok e = let w = let_fields p r ok in one-add _ ∙ ap suc (ap₂ max (e _ w.1) (ap₂ max (e _ w.2) (e _ w.3)))
-node-depth p r projᵏ ok e = let w = proj_fields p r ok in one-add _ ∙ ap suc (e _ w.2)
+node-depth p r projᵏ ok e = let w = proj_fields p r ok in one-add _ ∙ ap suc (e _ w.1)
 node-depth p r natᵏ ok e = refl
 node-depth p r strᵏ ok e = refl
 node-depth p r noExprᵏ ok e = refl
@@ -167,7 +164,7 @@ node-loose p r appᵏ ok e = let w = app_fields p r ok in ap₂ max (e _ w.0) (e
 node-loose p r piᵏ ok e = let w = pi_fields p r ok in ap₂ max (e _ w.2) (ap less_one (e _ w.3))
 node-loose p r lamᵏ ok e = let w = lam_fields p r ok in ap₂ max (e _ w.2) (ap less_one (e _ w.3))
 node-loose p r letᵏ ok e = let w = let_fields p r ok in ap₂ max (e _ w.1) (ap₂ max (e _ w.2) (ap less_one (e _ w.3)))
-node-loose p r projᵏ ok e = let w = proj_fields p r ok in e _ w.2
+node-loose p r projᵏ ok e = let w = proj_fields p r ok in e _ w.1
 node-loose p r natᵏ ok e = refl
 node-loose p r strᵏ ok e = refl
 node-loose p r noExprᵏ ok e = absurd (kind_known p r ok)
@@ -182,7 +179,7 @@ module _ (p : Pool) (sound : Sound p) where
 
   others : (r : ℕ) → r < E p.words
       → eqb (expr_word p.words r 6) (depth_by p r (kind_at r)) && (leb (expr_word p.words r 6) 256 && eqb (expr_word p.words r 7) (loose_by p r (kind_at r))) ≡ true
-  unfolding expr_ok
+  unfolding expr_ok_with
   others r h = and_right (expr_fields_ok p r (kind_at r)) _ (sound.exprs r h)
 
   pub depth_small : (r : ℕ) → r < E p.words → expr_word p.words r 6 ≤ 256
@@ -318,7 +315,7 @@ module _ (p : Pool) (sound : Sound p) (r : ℕ) (h : r < E p.words) where
   unfolding expr_kind
   let_ok e = let_fields p r (kept_at 6 e)
 
-  pub proj_ok : w 0 ≡ 7 → (w 1 < N p.names) × (w 2 ≤ 65534) × (w 3 < r)
+  pub proj_ok : w 0 ≡ 7 → (w 1 < N p.names) × (w 3 < r)
   unfolding expr_kind
   proj_ok e = proj_fields p r (kept_at 7 e)
 

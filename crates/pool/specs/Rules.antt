@@ -63,11 +63,14 @@ natural [] = false
 natural (b ∷ []) = is_digit b
 natural (b ∷ c ∷ s) = not (eqb b 48) && (is_digit b && all_digits (c ∷ s))
 
+-- Document 02, P8: "Index 65,535 is to print `.65536`, and check accepts it; 65,536 is refused 4."
+abbrev pub last_projection : ℕ
+last_projection = 65535
+
 -- "Expressions: kind, five fields, depth, loose." What each kind asks of its fields:
 -- "0 variable (index); 1 sort (level); 2 constant (name, list); 3 application (function, argument); 4 pi and 5 lambda (name,
 -- style, type, body); 6 let (name, type, value, body, nondep 0 or 1); 7 projection (type name, index, structure); 8 natural;
--- 9 string literal. Style: 0 default, 1 implicit, 2 strict, 3 instance." "Variable index at most 4,095, projection index at
--- most 65,534."
+-- 9 string literal. Style: 0 default, 1 implicit, 2 strict, 3 instance." "Variable index at most 4,095".
 unfoldable pub unused : List ℕ → Bool
 unused [] = true
 unused (w ∷ ws) = eqb w 0 && unused ws
@@ -86,19 +89,23 @@ module _ (p : Pool) (r : ℕ) where
   abbrev is_lower : ℕ → Bool
   is_lower e = ltb e r
 
-  unfoldable pub expr_fields_ok : ExprKind → Bool
-  expr_fields_ok varᵏ = leb (field 1) 4095 && unused (field 2 ∷ field 3 ∷ field 4 ∷ field 5 ∷ [])
-  expr_fields_ok sortᵏ = ltb (field 1) (L p.words) && unused (field 2 ∷ field 3 ∷ field 4 ∷ field 5 ∷ [])
-  expr_fields_ok constᵏ = is_name (field 1) && (ltb (field 2) (K p.words) && unused (field 3 ∷ field 4 ∷ field 5 ∷ []))
-  expr_fields_ok appᵏ = is_lower (field 1) && (is_lower (field 2) && unused (field 3 ∷ field 4 ∷ field 5 ∷ []))
-  expr_fields_ok piᵏ = is_name (field 1) && (ltb (field 2) 4 && (is_lower (field 3) && (is_lower (field 4) && unused (field 5 ∷ []))))
-  expr_fields_ok lamᵏ = is_name (field 1) && (ltb (field 2) 4 && (is_lower (field 3) && (is_lower (field 4) && unused (field 5 ∷ []))))
-  expr_fields_ok letᵏ =
+  -- with a greatest index of a projection
+  unfoldable pub expr_fields_ok_with : ℕ → ExprKind → Bool
+  expr_fields_ok_with last varᵏ = leb (field 1) 4095 && unused (field 2 ∷ field 3 ∷ field 4 ∷ field 5 ∷ [])
+  expr_fields_ok_with last sortᵏ = ltb (field 1) (L p.words) && unused (field 2 ∷ field 3 ∷ field 4 ∷ field 5 ∷ [])
+  expr_fields_ok_with last constᵏ = is_name (field 1) && (ltb (field 2) (K p.words) && unused (field 3 ∷ field 4 ∷ field 5 ∷ []))
+  expr_fields_ok_with last appᵏ = is_lower (field 1) && (is_lower (field 2) && unused (field 3 ∷ field 4 ∷ field 5 ∷ []))
+  expr_fields_ok_with last piᵏ = is_name (field 1) && (ltb (field 2) 4 && (is_lower (field 3) && (is_lower (field 4) && unused (field 5 ∷ []))))
+  expr_fields_ok_with last lamᵏ = is_name (field 1) && (ltb (field 2) 4 && (is_lower (field 3) && (is_lower (field 4) && unused (field 5 ∷ []))))
+  expr_fields_ok_with last letᵏ =
       is_name (field 1) && (is_lower (field 2) && (is_lower (field 3) && (is_lower (field 4) && ltb (field 5) 2)))
-  expr_fields_ok projᵏ = is_name (field 1) && (leb (field 2) 65534 && (is_lower (field 3) && unused (field 4 ∷ field 5 ∷ [])))
-  expr_fields_ok natᵏ = is_string (field 1) && (natural (string_at p (field 1)) && unused (field 2 ∷ field 3 ∷ field 4 ∷ field 5 ∷ []))
-  expr_fields_ok strᵏ = is_string (field 1) && unused (field 2 ∷ field 3 ∷ field 4 ∷ field 5 ∷ [])
-  expr_fields_ok noExprᵏ = false
+  expr_fields_ok_with last projᵏ = is_name (field 1) && (leb (field 2) last && (is_lower (field 3) && unused (field 4 ∷ field 5 ∷ [])))
+  expr_fields_ok_with last natᵏ = is_string (field 1) && (natural (string_at p (field 1)) && unused (field 2 ∷ field 3 ∷ field 4 ∷ field 5 ∷ []))
+  expr_fields_ok_with last strᵏ = is_string (field 1) && unused (field 2 ∷ field 3 ∷ field 4 ∷ field 5 ∷ [])
+  expr_fields_ok_with last noExprᵏ = false
+
+  abbrev pub expr_fields_ok : ExprKind → Bool
+  expr_fields_ok = expr_fields_ok_with last_projection
 
   abbrev depth_of : ℕ → ℕ
   depth_of e = expr_word p.words e 6
@@ -134,10 +141,15 @@ module _ (p : Pool) (r : ℕ) where
   loose_by strᵏ = 0
   loose_by noExprᵏ = 0
 
-  unfoldable pub expr_ok : Bool
-  expr_ok =
-      let kind : ExprKind = expr_kind (field 0) in
-      expr_fields_ok kind && (eqb (field 6) (depth_by kind) && (leb (field 6) 256 && eqb (field 7) (loose_by kind)))
+-- an expression row: its fields, "depth, loose"; with a greatest index of a projection
+unfoldable pub expr_ok_with : ℕ → Pool → ℕ → Bool
+expr_ok_with last p r =
+    let word : ℕ → ℕ = expr_word p.words r in
+    let kind : ExprKind = expr_kind (word 0) in
+    expr_fields_ok_with p r last kind && (eqb (word 6) (depth_by p r kind) && (leb (word 6) 256 && eqb (word 7) (loose_by p r kind)))
+
+abbrev pub expr_ok : Pool → ℕ → Bool
+expr_ok = expr_ok_with last_projection
 
 -- "Declarations: kind, name, list, type, value. 0 axiom, .., 7 recursor; value is used by 2 to 4 only."
 unfoldable pub declar_ok : Pool → ℕ → Bool

@@ -15,7 +15,7 @@ use Rattle.pool.specs.Tables.{Pool, pool, S, N, L, K, Q, E, D, total}
 use Rattle.pool.specs.Rules.{string_ok, name_ok, level_ok, list_ok, list_entry_ok, expr_ok, declar_ok}
 use Rattle.pool.specs.Sound.{Sound}
 use Rattle.byte_check.specs.Scan.{first_bad}
-use Rattle.pool_check.specs.Check.{number, is_accepted, in_table, refusal, words_ok, limits_ok, rows_verdict, verdict}
+use Rattle.pool_check.specs.Check.{number, is_accepted, in_table, refusal, words_ok, limits_ok, rows_verdict_with, rows_verdict, verdict_with, verdict}
 use Rattle.basics.proofs.Booleans.{and_left, and_right, false-true}
 
 apart : (r i : ℕ) → i ≤ r → (r ≡ i → ⊥) → i < r
@@ -58,7 +58,7 @@ table_passed ok count refused next h = by (ltb (first_bad ok count 0) count) ref
 
 -- no row is refused: every row keeps its rule
 pub rows_accepted : (p : Pool) → rows_verdict p ≡ Ok tt → Sound p
-unfolding rows_verdict
+unfolding rows_verdict_with
 rows_accepted p h =
     let a = table_passed (string_ok p) (S p.names) Strings _ h in
     let b = table_passed (name_ok p) (N p.names) Rows _ a.1 in
@@ -92,7 +92,7 @@ limited bs ws u v =
 
 -- an accepted pool is within its limits and sound
 pub accepted : (bs ws : List ℕ) → verdict bs ws ≡ Ok tt → Limited bs ws × Sound (pool bs ws)
-unfolding verdict
+unfolding verdict_with
 accepted bs ws h = by (words_ok ws) (limits_ok bs ws) refl refl h
   where
     by : (a b : Bool) → words_ok ws ≡ a → limits_ok bs ws ≡ b → cond a (cond b (rows_verdict (pool bs ws)) (Err (refusal 2 0))) (Err (refusal 1 0)) ≡ Ok tt

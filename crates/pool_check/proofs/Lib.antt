@@ -2,4 +2,5 @@ pub mod Scan
 pub mod Decide
 pub mod Acceptance
 pub mod Verdicts
+pub mod GreatestIndex
 pub mod NumberLaws

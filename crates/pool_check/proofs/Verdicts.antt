@@ -11,7 +11,7 @@ use Rattle.pool_check.specs.declared.PoolError.TheVariants.{Words, Limit}
 use Rattle.pool.specs.Tables.{Pool, pool}
 use Rattle.byte_check.specs.Scan.{first_bad, found}
 use Rattle.pool_check.specs.Stages.{limits}
-use Rattle.pool_check.specs.Check.{in_table, words_ok, limits_ok, rows_verdict, verdict}
+use Rattle.pool_check.specs.Check.{in_table, words_ok, limits_ok, rows_verdict, verdict_with, verdict}
 
 -- a table in the words of the code, which knows the first bad row
 module _ (ok : ℕ → Bool) (count : ℕ) (refused : ℕ → PoolError) (next : Result Unit PoolError) where
@@ -37,7 +37,7 @@ module _ (bs ws : List ℕ) (p : Pool) (e : p ≡ pool bs ws) (w : Bool) (ew : w
   head_read b y = sym (ew ∙ ap (λ (q : Pool). words_ok q.words) e) ∙ y
 
   pub verdict_words : w ≡ false → Err Words ≡ verdict bs ws
-  unfolding verdict
+  unfolding verdict_with
   verdict_words y = rw (head_read false y)
 
   module _ (y : w ≡ true) (l : Bool) (el : l ≡ limits p) where
@@ -45,11 +45,11 @@ module _ (bs ws : List ℕ) (p : Pool) (e : p ≡ pool bs ws) (w : Bool) (ew : w
     limits_read b z = sym (el ∙ ap limits e) ∙ z
 
     pub verdict_limit : l ≡ false → Err Limit ≡ verdict bs ws
-    unfolding verdict
+    unfolding verdict_with
     verdict_limit z = rw (head_read true y, limits_read false z)
 
     pub verdict_rows : l ≡ true → rows_verdict p ≡ verdict bs ws
-    unfolding verdict
+    unfolding verdict_with
     verdict_rows z = rw (head_read true y, limits_read true z) (ap rows_verdict e)
 
 -- what `?` hands on

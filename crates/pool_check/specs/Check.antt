@@ -3,7 +3,7 @@ use Rattle.std.specs.Prelude.{ℕ, Bool, ◌&&◌, cond, List, ltb, leb, eqb, le
 use Rattle.pool_check.specs.declared.PoolError.{PoolError}
 use Rattle.pool_check.specs.declared.PoolError.TheVariants.{Words, Limit, Strings, Rows}
 use Rattle.pool.specs.Tables.{Pool, pool, S, N, L, K, Q, E, D, total}
-use Rattle.pool.specs.Rules.{string_ok, name_ok, level_ok, list_ok, list_entry_ok, expr_ok, declar_ok}
+use Rattle.pool.specs.Rules.{last_projection, string_ok, name_ok, level_ok, list_ok, list_entry_ok, expr_ok_with, declar_ok}
 use Rattle.byte_check.specs.Scan.{first_bad}
 
 -- 01's number of each case, 0 for none
@@ -49,17 +49,24 @@ limits_ok bs ws =
 abbrev pub in_table : (ℕ → Bool) → ℕ → (ℕ → PoolError) → Result Unit PoolError → Result Unit PoolError
 in_table ok count refused next = let r : ℕ = first_bad ok count 0 in cond (ltb r count) (Err (refused r)) next
 
--- "3: a string pair. 4: any other row rule.": "tables in order, rows rising"
-unfoldable pub rows_verdict : Pool → Result Unit PoolError
-rows_verdict p =
+-- "3: a string pair. 4: any other row rule.": "tables in order, rows rising"; with a greatest index of a projection
+unfoldable pub rows_verdict_with : ℕ → Pool → Result Unit PoolError
+rows_verdict_with last p =
     in_table (string_ok p) (S p.names) (refusal 3)
     (in_table (name_ok p) (N p.names) (refusal 4)
     (in_table (level_ok p) (L p.words) (refusal 4)
     (in_table (list_ok p) (K p.words) (refusal 4)
     (in_table (list_entry_ok p) (Q p.words) (refusal 4)
-    (in_table (expr_ok p) (E p.words) (refusal 4) (in_table (declar_ok p) (D p.words) (refusal 4) (Ok tt)))))))
+    (in_table (expr_ok_with last p) (E p.words) (refusal 4) (in_table (declar_ok p) (D p.words) (refusal 4) (Ok tt)))))))
 
-unfoldable pub verdict : List ℕ → List ℕ → Result Unit PoolError
-verdict bs ws =
-    let rows : Result Unit PoolError = rows_verdict (pool bs ws) in
+abbrev pub rows_verdict : Pool → Result Unit PoolError
+rows_verdict = rows_verdict_with last_projection
+
+unfoldable pub verdict_with : ℕ → List ℕ → List ℕ → Result Unit PoolError
+verdict_with last bs ws =
+    let rows : Result Unit PoolError = rows_verdict_with last (pool bs ws) in
     cond (words_ok ws) (cond (limits_ok bs ws) rows (Err (refusal 2 0))) (Err (refusal 1 0))
+
+-- what check says of a pool
+abbrev pub verdict : List ℕ → List ℕ → Result Unit PoolError
+verdict = verdict_with last_projection

@@ -37,10 +37,7 @@ module _ (q : Printer) (r : ℕ) (row : r < E (pool_of q).words) where
   sound = q.pool.sound
 
   pub proj_rows : w 0 ≡ 7 → w 3 < r
-  proj_rows e = let ok = proj_ok p sound r row e in ok.2
-
-  pub proj_field : w 0 ≡ 7 → w 2 ≤ 65534
-  proj_field e = let ok = proj_ok p sound r row e in ok.1
+  proj_rows e = let ok = proj_ok p sound r row e in ok.1
 
   pub var_index : w 0 ≡ 0 → w 1 ≤ 4095
   var_index e = var_ok p sound r row e

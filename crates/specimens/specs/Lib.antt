@@ -1,4 +1,5 @@
 pub mod Computing
 pub mod Specimens
 pub mod Refusals
+pub mod LastProjection
 pub mod Handing

@@ -34,7 +34,7 @@ use Rattle.third_property.proofs.PlaceLaws.{Like, expr_like, declar_like}
 use Rattle.lister.specs.declared.error.PrintError.TheVariants.{Size, Names, Document, RowArea, TextArea, Listing}
 use Rattle.lister.specs.Answers.{Answer, of_pool, number, place, stop_answer, of_laid}
 use Rattle.lister.specs.Source.{Source, pool_of, judged}
-use Rattle.lister.specs.Prints.{Areas, Outcome, untouched, document_cleared, filled, document_listed, after_walk, print_doc, sizes_ok, checked, print}
+use Rattle.lister.specs.Prints.{Areas, Outcome, untouched, document_cleared, filled, document_listed, after_walk, print_doc, sizes_ok, checked, print_with, print}
 use Rattle.third_property.specs.ThirdProperty.{Print, expression, declaration, call, roots_in, root_doc, SameTree, Run, Returned, Rooted, Succeeded, listing, document, Premises}
 use Rattle.third_property.specs.ThirdProperty.{EndAlike, refused, succeeded, defined, walked, laid, reported, Stands, AsDefined, sizes, stops, short, lists}
 use Rattle.third_property.specs.ThirdProperty.{SameDocument, PutBack, met_in, StartsRows, HoldsWidth, CountsTests, OneRun, TwoRuns, ThirdProperty}
@@ -51,7 +51,7 @@ use Rattle.third_property.proofs.WalkLaws.{Near, plain_like, walks_near}
 rooted_call : (k : Print) (s : Source) (root indent width : ℕ) (areas : Areas) → judged s ≡ Ok tt → root < roots_in k s
     → call k s root indent width areas
     ≡ cond (sizes_ok indent width) (print_doc (root_doc k indent (pool_of s) root) width areas) (untouched (Err Size) areas)
-unfolding call print root_doc checked
+unfolding call print_with root_doc checked
 rooted_call expression s root indent width areas a h = rw (a, lt-ltb root (E s.words) h)
 rooted_call declaration s root indent width areas a h = rw (a, lt-ltb root (D s.words) h)
 
@@ -70,7 +70,7 @@ checked-done (Ok tt) false ok print areas h = absurd (omega arith)
 
 call-done : (k : Print) (s : Source) (root indent width : ℕ) (areas : Areas) → number (call k s root indent width areas).answer ≡ 0
     → (judged s ≡ Ok tt) × (ltb root (roots_in k s) ≡ true)
-unfolding call print
+unfolding call print_with
 call-done expression s root indent width areas h = checked-done (judged s) (ltb root (E s.words)) (sizes_ok indent width) _ areas h
 call-done declaration s root indent width areas h = checked-done (judged s) (ltb root (D s.words)) (sizes_ok indent width) _ areas h
 

@@ -41,7 +41,9 @@ fn lists_what_is_chosen() {
 
 #[test]
 fn refusals() {
-    let path = pool_file("refused.pool", "(axiom k (proj S 65535 @s))");
+    let path = pool_file("last.pool", "(axiom k (proj S 65535 @s))");
+    assert_eq!(run(&["list", path.to_str().unwrap()]), ("axiom k : @s.65536\n".into(), String::new(), 0));
+    let path = pool_file("refused.pool", "(axiom k (proj S 65536 @s))");
     for command in ["check", "list"] {
         assert_fails(&[command, path.to_str().unwrap()], 1, "refused 4 (expression row 1, words 7 ");
     }

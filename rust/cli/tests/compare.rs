@@ -80,7 +80,7 @@ fn rows_that_are_not_there() {
     }
     let empty = pool_file("no_expressions.pool", "(name a)");
     assert_fails(&["compare", empty.to_str().unwrap(), "0", "0"], 1, "expression row 0: refused 5: the pool has no such row (it has no expressions)");
-    let refused = pool_file("compare_refused.pool", "(axiom k (proj S 65535 @s))");
+    let refused = pool_file("compare_refused.pool", "(axiom k (proj S 65536 @s))");
     assert_fails(&["compare", refused.to_str().unwrap(), "0", "9"], 1, "refused 4 (expression row 1, words 7 ");
 }
 

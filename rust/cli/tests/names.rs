@@ -13,7 +13,7 @@ fn row_kind_and_name() {
     let expected = "0 axiom a.b\n1 theorem «a.b»\n2 def Register.cross\n3 quotient a.«b c».5\n4 opaque «a.b c.5»\n5 inductive _\n6 constructor «_»\n\
                     7 recursor «5»\n8 axiom 5\n9 axiom «x\\ny»\n10 axiom a.b\n";
     assert_eq!(run(&["names", path.to_str().unwrap()]), (expected.to_string(), String::new(), 0));
-    let refused = pool_file("names_refused.pool", "(axiom k (proj S 65535 @s))");
+    let refused = pool_file("names_refused.pool", "(axiom k (proj S 65536 @s))");
     assert_fails(&["names", refused.to_str().unwrap()], 1, "refused 4 (expression row 1");
     assert_fails(&["names"], 2, "a file is expected");
     assert_fails(&["names", "a", "--width", "3"], 2, "names has no option --width");

@@ -63,7 +63,7 @@ fn mistaken() -> std::path::PathBuf {
     std::fs::create_dir(&folder).unwrap();
     let written = |name: &str, bytes: &[u8]| std::fs::write(folder.join(name), bytes).unwrap();
     written("lemma.txt", page("samples/lemma.txt").as_bytes());
-    written("refused.txt", b"(axiom k (proj S 65535 @s))");
+    written("refused.txt", b"(axiom k (proj S 65536 @s))");
     written("total.txt", b"(axiom k @C) (words 5)");
     written("no_body.txt", b"(axiom k (forall (x : @A)))");
     written("mark.txt", b"\xef\xbb\xbf(axiom k @C)");

@@ -1,6 +1,6 @@
 use Rattle.third_property.proofs.ThirdProperty.{third_property}
 use Rattle.third_property.proofs.Decisions.{decided}
-use Rattle.lister.specs.Prints.{Areas, Outcome, print}
+use Rattle.lister.specs.Prints.{Areas, print}
 use Rattle.lister.specs.Frames.{given}
 use Rattle.lister.specs.Source.{Source}
 use Rattle.declarations.specs.declared.listing.Root.{Root}
