@@ -142,7 +142,8 @@ fn number_4_and_its_table() {
     }
 }
 
-/// The last projection prints its index and 1, five digits; the next one is refused by every call that is given the pool, or hands out nothing.
+/// The last projection prints its index and 1, five digits; the next one is refused by every call that is given the pool, and hands out
+/// nothing.
 #[test]
 fn last_projection() {
     let pool = |index: u32| packed(&format!("(axiom k (proj S {index} @s))")).pool;
