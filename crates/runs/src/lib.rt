@@ -23,7 +23,8 @@ pub struct Answers {
     pub second: Result<Counts, PrintError>,
 }
 
-// What a call of a print is asked: the pool, the row of its root, and the sizes. The areas that it is lent stay apart (see `lister::print`).
+// What a call of a print is asked: the pool, the row of its root, and the sizes. The areas that it is lent stay apart
+// (see `lister::print`).
 #[derive(Clone, Copy)]
 pub struct Call<'a> {
     pub source: Source<'a>,

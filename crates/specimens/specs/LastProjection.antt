@@ -10,13 +10,19 @@ use Rattle.lister.specs.LastProjection.{last_before}
 use Rattle.specimens.specs.Refusals.{pool}
 use Rattle.specimens.specs.Computing.{computing}
 
--- the projection of the constant s with an index, and an axiom s of that type
+-- a string, two names, an empty list, the constant s, its projection with an index, and an axiom s of that type
 unfoldable pub projection : ℕ → Source
 projection index =
     record {
       bytes = bytes "s";
-      words = pool 1 2 0 1 0 2 1
-          (0 ∷ 1 ∷ 0 ∷ 0 ∷ 0 ∷ 0 ∷ 1 ∷ 0 ∷ 0 ∷ 0 ∷ 0 ∷ 0 ∷ 2 ∷ 1 ∷ 0 ∷ 0 ∷ 0 ∷ 0 ∷ 1 ∷ 0 ∷ 7 ∷ 1 ∷ index ∷ 0 ∷ 0 ∷ 0 ∷ 2 ∷ 0 ∷ 0 ∷ 1 ∷ 0 ∷ 1 ∷ 0 ∷ []);
+      words =
+          pool 1 2 0 1 0 2 1
+          ((0 ∷ 1 ∷ [])
+          ++ (0 ∷ 0 ∷ 0 ∷ 0 ∷ 1 ∷ 0 ∷ 0 ∷ 0 ∷ [])
+          ++ (0 ∷ 0 ∷ [])
+          ++ (2 ∷ 1 ∷ 0 ∷ 0 ∷ 0 ∷ 0 ∷ 1 ∷ 0 ∷ [])
+          ++ (7 ∷ 1 ∷ index ∷ 0 ∷ 0 ∷ 0 ∷ 2 ∷ 0 ∷ [])
+          ++ (0 ∷ 1 ∷ 0 ∷ 1 ∷ 0 ∷ []));
     }
 
 pub lent : Areas

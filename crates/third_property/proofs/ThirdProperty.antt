@@ -107,7 +107,9 @@ stop_same_number : (n p q : ℕ) → number (stop_answer n p) ≡ number (stop_a
 unfolding stop_answer number
 stop_same_number n p q = by (eqb n 7) (eqb n 8) (eqb n 20)
   where
-    by : (a b c : Bool) → number (Err (cond a (Names p) (cond b (Document p) (cond c (RowArea p) (TextArea p))))) ≡ number (Err (cond a (Names q) (cond b (Document q) (cond c (RowArea q) (TextArea q)))))
+    by : (a b c : Bool)
+        → number (Err (cond a (Names p) (cond b (Document p) (cond c (RowArea p) (TextArea p)))))
+        ≡ number (Err (cond a (Names q) (cond b (Document q) (cond c (RowArea q) (TextArea q)))))
     by true b c = refl
     by false true c = refl
     by false false true = refl
