@@ -117,10 +117,15 @@ fn string(i: usize) -> Vec<u8> {
     s.into_bytes()
 }
 
-/// An accepted pool with n rows in each table, chains of the greatest depth, every kind, and strings that share no byte and fill the area.
+/// Counts of a pool's head.
+const HEAD: usize = 8;
+
+/// An accepted pool with n rows in each table but for the notation, chains of the greatest depth, every kind, and strings that share no
+/// byte and fill the area.
 fn pool(n: usize) -> Pool {
     let mut bytes = Vec::new();
-    let mut w = vec![n as u32; 7];
+    let mut w = vec![n as u32; HEAD];
+    w[7] = 0;
     for i in 0..n {
         w.extend([bytes.len() as u32, 256]);
         bytes.extend(string(i));
@@ -214,7 +219,7 @@ fn pool(n: usize) -> Pool {
 
 /// A pool of strings, and of a natural for each string row that is named.
 fn overlapping(bytes: Vec<u8>, strings: impl Iterator<Item = (u32, u32)>, naturals: impl Iterator<Item = u32>) -> Pool {
-    let mut words = vec![0; 7];
+    let mut words = vec![0; HEAD];
     for (offset, length) in strings {
         words[0] += 1;
         words.extend([offset, length]);
@@ -240,17 +245,63 @@ fn overlaps() -> [(&'static str, Pool); 5] {
     ]
 }
 
+/// A pool of strings and of names, and of an operator of each name, in another order; and the same without operators.
+fn operators(bytes: Vec<u8>, strings: impl Iterator<Item = (u32, u32)>, names: impl Iterator<Item = [u32; 4]>) -> (Pool, Pool) {
+    let mut words = vec![0; HEAD];
+    for (offset, length) in strings {
+        words[0] += 1;
+        words.extend([offset, length]);
+    }
+    for name in names {
+        words[1] += 1;
+        words.extend(name);
+    }
+    let without = Pool { bytes: bytes.clone(), words: words.clone() };
+    let (strings, names) = (words[0], words[1]);
+    words[7] = names;
+    words.extend((0..names).flat_map(|i| [i.wrapping_mul(40_503) % names, i % 3, 1 + i % 1023, i % strings]));
+    (Pool { bytes, words }, without)
+}
+
+/// Pools with 65,536 operators, and the same without them.
+fn notations() -> [(&'static str, (Pool, Pool)); 5] {
+    const COUNT: u32 = 65_536;
+    let eights = || (0..COUNT - 1).flat_map(|i| format!("n{i:07}").into_bytes()).collect::<Vec<u8>>();
+    let each = || (0..COUNT).map(|i| if i == 0 { [0; 4] } else { [1, 0, i - 1, 0] });
+    let pairs = |step: u32, length: u32| (0..COUNT - 1).map(move |i| (step * i, length));
+    // letters and digits in no order, so that parts from different places differ
+    let next = |state: &mut u32| {
+        *state = state.wrapping_mul(1_664_525).wrapping_add(1_013_904_223);
+        Some(b"abcdefghijklmnopqrstuvwxyz012345"[(*state >> 27) as usize])
+    };
+    let mixed = || (0..1 << 24).scan(1, |state, _| next(state)).collect::<Vec<u8>>();
+    let numbers = (0..COUNT).map(|i| if i == 0 { [0; 4] } else { [2, 0, i, 0] });
+    // chains of rows, each with a component more than the row before; a chain begins with a number of its own
+    let chains = (0..COUNT).map(|i| match i {
+        0 => [0; 4],
+        i if i % 63 == 1 => [2, 0, i, 0],
+        i => [1, i - 1, i % 5, 0],
+    });
+    [
+        ("names of one component, strings of 8 bytes", operators(eights(), pairs(8, 8), each())),
+        ("names of one component, numbers", operators(eights(), pairs(8, 8), numbers)),
+        ("names of 1 to 63 components", operators(eights(), pairs(8, 8), chains)),
+        ("names of one component, strings of 16,384 bytes that begin a byte later each", operators(mixed(), pairs(1, 16_384), each())),
+        ("names of one component, strings of 8 MiB that begin a byte later each", operators(mixed(), pairs(1, 1 << 23), each())),
+    ]
+}
+
 /// The smallest pool, and that of `axiom k : @C`.
 fn smallest() -> [(&'static str, Pool); 2] {
     let axiom = [
-        [2, 3, 0, 1, 0, 1, 1].as_slice(),
+        [2, 3, 0, 1, 0, 1, 1, 0].as_slice(),
         &[0, 1, 1, 1],
         &[0, 0, 0, 0, 1, 0, 0, 0, 1, 0, 1, 0],
         &[0, 0],
         &[2, 2, 0, 0, 0, 0, 1, 0],
         &[0, 1, 0, 0, 0],
     ];
-    [("no row at all", Pool { bytes: Vec::new(), words: vec![0; 7] }), ("`axiom k : @C`", Pool { bytes: b"kC".to_vec(), words: axiom.concat() })]
+    [("no row at all", Pool { bytes: Vec::new(), words: vec![0; HEAD] }), ("`axiom k : @C`", Pool { bytes: b"kC".to_vec(), words: axiom.concat() })]
 }
 
 /// The sum of all bytes and all words: one pass over the same memory.
@@ -447,7 +498,7 @@ fn stack_of(task: &mut dyn FnMut()) -> usize {
     here - a
 }
 
-const TASKS: [&str; 9] = [
+const TASKS: [&str; 10] = [
     "check, full pool",
     "layout, left comb",
     "layout, right comb",
@@ -457,11 +508,16 @@ const TASKS: [&str; 9] = [
     "layout with a pending area, right comb",
     "layout with a pending area, chain of groups",
     "layout with a pending area, nested groups",
+    "check, 65,536 operators",
 ];
 
 fn task(i: usize) -> Box<dyn FnMut() + Send> {
     if i == 0 {
         let p = pool(65536);
+        return Box::new(move || assert!(check(&p).0 == 0));
+    }
+    if i == 9 {
+        let [(_, (p, _)), ..] = notations();
         return Box::new(move || assert!(check(&p).0 == 0));
     }
     let d = [left_comb, right_comb, groups, nested][(i - 1) % 4](16384);
@@ -484,7 +540,9 @@ fn passes(i: usize, stack: usize) -> bool {
 fn interface() {
     let p = |words: Vec<u32>| Pool { bytes: Vec::new(), words };
     assert!(check(&p(vec![])) == (1, [1, 0, 0, 0, 0, 0, 0, 0]));
-    assert!(check(&p(vec![0, 2, 0, 0, 0, 0, 0, 0, 0, 0, 0, 3, 0, 0, 0])) == (4, [4, 1, 0, 0, 0, 0, 0, 0]));
+    assert!(check(&p(vec![0, 2, 0, 0, 0, 0, 0, 0, 0, 0, 0, 0, 3, 0, 0, 0])) == (4, [4, 1, 0, 0, 0, 0, 0, 0]));
+    // an operator without a string
+    assert!(check(&p(vec![0, 1, 0, 0, 0, 0, 0, 1, 0, 0, 0, 0, 0, 0, 1, 0])) == (31, [31, 0, 0, 0, 0, 0, 0, 0]));
     let mut short = [7u64; 7];
     assert!(unsafe { tilusorgu_check([].as_ptr(), 0, [].as_ptr(), 0, short.as_mut_ptr(), 7) } == 1 && short == [7; 7]);
     let mut listing = [0u8; 8];
@@ -518,7 +576,7 @@ fn main() {
 
     interface();
     println!("## Check\n");
-    println!("Accepted pools, so many rows in each of the seven tables and 256 bytes for each string row; against one pass (the sum of all bytes and words).\n");
+    println!("Accepted pools without notation rows, so many rows in each other table and 256 bytes for each string row; against one pass (the sum of all bytes and words).\n");
     println!("| rows in each table | bytes | words | check, µs | one pass, µs | ratio | check, ns a row of all tables |");
     println!("|---|---|---|---|---|---|---|");
     for n in [1000, 4096, 16384, 65536] {
@@ -554,6 +612,15 @@ fn main() {
         let ours = best(3, Duration::from_millis(500), || { black_box(check(black_box(&p))); });
         let once = best(3, Duration::from_millis(200), || { black_box(pass(black_box(&p))); });
         println!("| {} | {} | {:.0} | {:.0} | {:.1} |", name, p.words.len(), micros(ours), micros(once), ours.as_secs_f64() / once.as_secs_f64());
+    }
+    println!("\nPools with 65,536 notation rows, each of another name, against the same pools without them.\n");
+    println!("| pool | check, µs | without notation rows, µs | difference, ns a notation row |");
+    println!("|---|---|---|---|");
+    for (name, (p, without)) in notations() {
+        assert!(check(&p).0 == 0 && check(&without).0 == 0, "{name}");
+        let time = |p: &Pool| best(3, Duration::from_millis(500), || { black_box(check(black_box(p))); });
+        let (ours, bare) = (time(&p), time(&without));
+        println!("| {} | {:.0} | {:.0} | {:.0} |", name, micros(ours), micros(bare), (micros(ours) - micros(bare)) * 1e3 / 65536.0);
     }
     println!("\nThe smallest pools, the mean of 1,000 calls.\n");
     println!("| pool | check, ns |");

@@ -354,6 +354,7 @@ fn main() {
                 let oracle = oracle.as_deref();
                 corpus(&at, oracle);
                 table(&at, "documents", "Documents of 11,000 to 16,000 rows", oracle, 10, 100);
+                table(&at, "operators", "Operators", oracle, 10, 100);
                 groups(&at, oracle);
                 table(&at, "declarations", "Small declarations", oracle, 200, 20);
             });

@@ -72,6 +72,52 @@ def documents():
         yield title, printable(title, q)
 
 
+# ---- operators
+
+SIGNS = ((0, ("neg",), 75, "-"), (1, ("add",), 65, "+"), (2, ("fact",), 80, "!"))
+NEG, ADD, FACT = const("neg"), const("add"), const("fact")
+# operators that nothing uses, their names in rows of their own
+UNUSED = tuple((1, ("unused%d" % i,), 1 + i % 1023, "+") for i in range(60000))
+
+
+def requested(mode, tree, notation, width=80):
+    """An expression or a declaration of a pool with these notation rows."""
+    b = Builder()
+    root = b.expr(tree) if mode == EXPRESSION else b.declar(*tree)
+    for row in notation:
+        b.notation(*row)
+    return rust.Request(mode, root, 2, width, *b.pool())
+
+
+def sums(terms):
+    """A sum of so many terms that are sums on the left, plus one of as many that are sums on the right."""
+    left = right = const("a")
+    for i in range(terms - 1):
+        left, right = apply(ADD, left, const("l%d" % i)), apply(ADD, const("r%d" % i), right)
+    return apply(ADD, left, right)
+
+
+def signs(count):
+    e = C
+    for _ in range(count):
+        e = apply(NEG, e)
+    return e
+
+
+def tiled_sums(k):
+    return apply(const("g%d" % k), *(apply(ADD, const("a%d" % i), const("b%d" % i)) for i in range(160)))
+
+
+def operators():
+    """Each with its operators, without notation rows, and with 60,000 notation rows more."""
+    made = [("prefix operators, 255 deep", signs(255)),
+            ("a sum of two sums of 120 terms, one on each side", sums(120)),
+            ("applications of 160 sums, 3 of them", whole([tiled_sums(k) for k in range(3)]))]
+    for title, tree in made:
+        for more, notation in (("", SIGNS), ("; no notation row", ()), ("; 60,000 notation rows more", UNUSED + SIGNS)):
+            yield title + more, printable(title, requested(EXPRESSION, tree, notation))
+
+
 # ---- groups of binders whose types share a long front and part in the last argument
 
 def parting(count, arguments, share, of=lambda i: const("a")):
@@ -456,6 +502,12 @@ HOLES = (
     ("a let's value's lambda", lambda e: ("let", ("x",), C, lam("x", C, e), C, 0)),
     ("the type of a group of three", lambda e: lam("x", e, lam("y", e, lam("z", e, C)))),
 )
+OPERANDS = (
+    ("a prefix operator's operand", lambda e: apply(NEG, e)),
+    ("an infix operator's left operand", lambda e: apply(ADD, e, C)),
+    ("an infix operator's right operand", lambda e: apply(ADD, C, e)),
+    ("a postfix operator's operand", lambda e: apply(FACT, e)),
+)
 
 
 def deepest(hole):
@@ -470,11 +522,11 @@ def deepest(hole):
 
 def stacks():
     """Each shape as an expression, as an axiom's type and as a definition's value."""
-    for title, hole in HOLES:
-        e = deepest(hole)
-        yield expression(title + "|expression", e, 40)
-        yield declaration(title + "|type", (0, ("k",), (), e, None), 40)
-        yield declaration(title + "|value", (3, ("k",), (), C, e), 40)
+    for title, hole in HOLES + OPERANDS:
+        e, notation = deepest(hole), SIGNS if (title, hole) in OPERANDS else ()
+        yield title + "|expression", requested(EXPRESSION, e, notation, 40)
+        yield title + "|type", requested(DECLARATION, (0, ("k",), (), e, None), notation, 40)
+        yield title + "|value", requested(DECLARATION, (3, ("k",), (), C, e), notation, 40)
 
 
 def write(folder, name, made):
@@ -486,7 +538,7 @@ def write(folder, name, made):
 
 
 def main():
-    for made in (corpus, documents, groups, declarations, pools, stacks, comparisons, compared_stacks):
+    for made in (corpus, documents, operators, groups, declarations, pools, stacks, comparisons, compared_stacks):
         write(sys.argv[1], made.__name__, made())
 
 

@@ -17,8 +17,9 @@ import record
 import refusals
 import rust
 import specimens
+import turned
 from generate import Case
-from pools import apply, of_declar, of_expr
+from pools import NOTATION, Builder, apply, of_expr, of_tree
 
 # What the model says of a print: its document and listing, or a refusal (number, place).
 Expected = namedtuple("Expected", "request rows text laid refusal")
@@ -81,15 +82,18 @@ def expected_prints(case, share, tally):
 
 
 def same_trees(case, tally):
-    """Shared, unshared and mixed pools of the same trees have the same documents. Gives the same print of each root in the three pools, for the
-    product."""
-    documents, pools = [], [case.pool(share) for share in (True, False, None)]
+    """Shared, unshared and mixed pools of the same trees have the same documents; their notation rows stand in other orders and name other
+    rows. Gives the same print of each root in the three pools, for the product."""
+    documents, orders, pools = [], set(), [case.pool(share) for share in (True, False, None)]
     for area, words, roots in pools:
         pool = model.Pool(area, words)
         documents.append(pool.fault == (0, 0) and [model.rows_of(model.document(pool, m, r, 2)) for m, r in roots])
+        orders.add(tuple(pool.operators))
         terms = [model.expr_term(pool.exprs[r]) for m, r in roots if m == 0]
         tally.judge(terms == [tree for m, tree in case.trees if m == 0], "seed", case.seed, "rows unfold to other trees")
     tally.judge(documents[0] and documents[0] == documents[1] == documents[2], "seed", case.seed, "shared and unshared differ")
+    tally.figures["cases in three pools"] += 1
+    tally.figures["of these with notation rows in different orders"] += len(orders) > 1
     width = (0, 20, 80)[case.seed % 3]
     return [[rust.Request(*pools[k][2][i], 2, width, *pools[k][:2]) for k in range(3)] for i in range(len(case.trees))]
 
@@ -115,13 +119,14 @@ def about(q):
 
 
 def judge_published(program, batch, tally):
-    """Listing, document and counts of each print; outside the domain only figures are taken. Gives the Rust's replies, None where a print is
-    outside the domain."""
-    replies = []
-    for e, reply in zip(batch, rust.ask(program, [e.request for e in batch])):
+    """Listing, document and counts of each print; outside the domain only figures are taken. Of a pool with infix rows the Rust is given
+    the trees with the operands of these turned. Gives the Rust's replies, None where a print is outside the domain."""
+    replies, asked = [], [turned.request(e.request) for e in batch]
+    for e, q, reply in zip(batch, asked, rust.ask(program, asked)):
         same = (reply.status, reply.listing, reply.rows, reply.text) == (rust.PRINTED, e.laid.listing, e.rows, e.text)
         if reply.in_domain or reply.status != rust.PRINTED:
-            tally.figures["in the domain"] += 1
+            tally.figures["in the domain" if q is e.request else "outside it by infix rows, the Rust given their operands turned"] += 1
+            tally.figures["in the domain, of pools with notation rows"] += q is e.request and e.request.words[NOTATION] > 0
             good = same and rust.counts(reply, e.request.width) == counts_of(e)
             tally.judge(good, about(e.request), "Rust", reply.status, reply.listing, "model", e.laid.listing)
             replies.append(reply)
@@ -173,15 +178,47 @@ def random_prints(subjects, seed, prints, tally):
 
 
 def directed_prints(subjects, tally):
-    """The trees of directed.py at a width that takes most of them whole and at a narrow one."""
-    batch = []
-    for number, (mode, tree) in enumerate(directed.trees()):
-        area, words, root = (of_expr if mode == 0 else of_declar)(tree, number % 2 == 0)
+    """The trees of directed.py at a width that takes most of them whole and at a narrow one; those with operators at narrower ones too."""
+    batch, pairs = [], []
+    for number, (mode, tree, notation) in enumerate(directed.trees()):
+        area, words, root = of_tree(mode, tree, number % 2 == 0, notation)
         pool, indent = model.Pool(area, words), (2, 4, 1)[number % 3]
         tally.judge(pool.fault == (0, 0), "directed", number, "check gives", pool.fault)
-        batch += [expected(pool, rust.Request(mode, root, indent, width, area, words)) for width in (100, 14)]
+        widths = (100, 14, 5, 0) if notation else (100, 14)
+        prints = [expected(pool, rust.Request(mode, root, indent, width, area, words)) for width in widths]
+        if notation:
+            pairs += [(e, other_notation(mode, tree, notation, e.request, tally)) for e in prints]
+        batch += prints
     tally.figures["directed prints"] = len(batch)
     judge_prints(subjects, batch, tally)
+    if subjects.product:
+        judge_pairs(subjects.product, pairs, tally)
+
+
+def other_notation(mode, tree, notation, request, tally):
+    """The same print of a pool whose notation rows stand in the other order, before a row for a name that the tree has not, and refer to
+    name and string rows of their own, behind those of the tree: the model's document is the same."""
+    b = Builder(False)
+    root = b.expr(tree) if mode == 0 else b.declar(*tree)
+    for row in (*reversed(notation), (notation[0][0], ("no", "such", 0), 7, notation[0][3])):
+        b.notation(*row)
+    other = request._replace(root=root, area=b.pool()[0], words=b.pool()[1])
+    documents = []
+    for q in (request, other):
+        pool = model.Pool(q.area, q.words)
+        documents.append(pool.fault == (0, 0) and model.rows_of(model.document(pool, mode, q.root, q.indent)))
+    tally.judge(documents[0] and documents[0] == documents[1], "other notation rows:", about(request), tree, notation)
+    tally.figures["prints with the notation in other rows"] += 1
+    return other
+
+
+def judge_pairs(program, pairs, tally):
+    """The product's answers to the same print of two pools."""
+    replies = product.ask(program, [q for e, other in pairs for q in (e.request, other)])
+    for i, (e, _) in enumerate(pairs):
+        one, other = replies[2 * i:2 * i + 2]
+        fault = one.fault or other.fault
+        tally.judge(fault is None and one == other, "product, other notation rows:", about(e.request), fault, one.listing, other.listing)
 
 
 def one_higher(before, after):
@@ -347,7 +384,7 @@ def replay_model(pool_record, pool, tally):
 
 
 def replay_rust(program, pool_records, tally):
-    asked = [(p, rust.Request(p.mode, p.root, p.indent, p.width, r.area, r.words)) for r in pool_records for p in r.prints]
+    asked = [(p, turned.request(rust.Request(p.mode, p.root, p.indent, p.width, r.area, r.words))) for r in pool_records for p in r.prints]
     for (p, q), reply in zip(asked, rust.ask(program, [q for _, q in asked])):
         good = reply.status == rust.PRINTED and reply.in_domain and reply.listing == p.listing
         good = good and rust.counts(reply, p.width) == p.counts

@@ -7,7 +7,7 @@ from collections import namedtuple
 import model
 import product
 from generate import Case
-from pools import EXPRS, ROW_WORDS, Builder, apply, const
+from pools import EXPRS, HEAD_WORDS, ROW_WORDS, Builder, apply, const
 
 # Two rows of a pool, and the place where they part.
 Pair = namedtuple("Pair", "title area words first second place")
@@ -24,7 +24,7 @@ def call(pair, swapped=False):
 
 def row_at(words, row, place):
     """The row that a place leads to."""
-    start = 7 + sum(n * w for n, w in zip(words[:EXPRS], ROW_WORDS))
+    start = HEAD_WORDS + sum(n * w for n, w in zip(words[:EXPRS], ROW_WORDS))
     for word in place:
         row = words[start + 8 * row + word]
     return row

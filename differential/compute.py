@@ -8,6 +8,7 @@ import sys
 
 import model
 import record
+from pools import NOTATION, table
 
 HERE = os.path.dirname(os.path.abspath(__file__))
 OUT = os.path.join(HERE, "..", "crates", "computed", "specs")
@@ -100,8 +101,9 @@ def write(name, title, first, areas, terms):
 
 
 def write_refusals(picked):
-    """Eight kinds of short areas, each for a few of the smaller prints that are not trivial."""
-    prints = [(r, p) for r, p in picked if 12 <= len(p.rows) <= 24 and len(r.words) <= 160][:3]
+    """Eight kinds of short areas, each for a few of the smaller prints that are not trivial, the last one's pool with notation rows."""
+    prints = [(r, p) for r, p in picked if 12 <= len(p.rows) <= 24 and len(r.words) <= 160]
+    prints = prints[:2] + [(r, p) for r, p in prints if table(r.words, NOTATION)][:1]
     terms = [short_term(n, r, p, lengths) for n, (r, p, lengths) in enumerate((r, p, lengths) for r, p in prints for lengths in short_lengths(p))]
     write("Refusals", "Prints into short areas, as model.py has them", "use Rattle.lister.specs.declared.error.PrintError.TheVariants.{%s}\n",
           "numbers, source, filled, left", terms)

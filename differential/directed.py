@@ -1,8 +1,8 @@
-"""Small trees laid out by rule, so that each clause of document 01 is met by inputs that show it alone."""
+"""Small trees laid out by rule, so that each clause of document 01, and of 02's operators (P5), is met by inputs that show it alone."""
 from itertools import product
 
-from generate import LITERALS, ODD, PLAIN
-from pools import DEFAULT, IMPLICIT, INSTANCE, STRICT, apply, const
+from generate import LITERALS, ODD, PLAIN, SIGNS
+from pools import DEFAULT, IMPLICIT, INFIX, INSTANCE, POSTFIX, PREFIX, STRICT, apply, const
 
 A, B, P = const("A"), const("B"), const("P")
 STYLES = (DEFAULT, IMPLICIT, STRICT, INSTANCE)
@@ -129,6 +129,104 @@ def letters():
         yield 0, apply(*parts)
 
 
-def trees():
-    for part in (names, levels, places, pairs, chains, literals, letters):
+# Operators: a tree with the rows for it. A name says kind and priority.
+
+KINDS = (PREFIX, INFIX, POSTFIX)
+EDGE_PRIORITIES = (1, 24, 25, 26, 1022, 1023)
+
+
+def row(kind, priority, string=None, name=None):
+    return kind, name or ("pre", "in", "post")[kind:kind + 1] + (priority,), priority, "-+!"[kind] if string is None else string
+
+
+def over(notation, *arguments, levels=()):
+    return apply(("const", notation[1], levels), *arguments)
+
+
+def operation(notation, e, other=B):
+    """The operator over an operand; if it is infix, with another one on the right."""
+    return over(notation, e, other) if notation[0] == INFIX else over(notation, e)
+
+
+def arguments():
+    """Each kind over none to four arguments, with levels and without, the row's string empty or not."""
+    for kind in KINDS:
+        for string, levels in product(("#", ""), ((), (("zero",), ("param", ("u",))))):
+            r = row(kind, 65, string)
+            for count in range(5):
+                yield 0, over(r, *(A, var(0), P, B)[:count], levels=levels), (r,)
+
+
+def operands():
+    """Each kind of expression as an operand, where it gets parentheses and where it does not; of an infix operator on either side."""
+    for kind, priority in product(KINDS, (1, 24, 25, 1023)):
+        r = row(kind, priority)
+        for e in shapes(3) + [("sort", ("zero",)), over(r, A, B, P)]:
+            yield 0, operation(r, e), (r,)
+            if kind == INFIX and priority in (1, 1023):
+                yield 0, operation(r, B, e), (r,)
+
+
+def results():
+    """The result in each place that sets an outer level, for priorities next to it."""
+    for kind, priority in product(KINDS, EDGE_PRIORITIES):
+        r = row(kind, priority)
+        e = operation(r, A)
+        for tree in (apply(e, A), apply(P, e, A), ("proj", ("S",), 0, e), pi((), DEFAULT, e, e), pi(("x",), IMPLICIT, e, B),
+                     lam(("x",), INSTANCE, e, e), ("let", ("x",), e, e, e, 0)):
+            yield 0, tree, (r,)
+        yield 1, (0, ("k",), (), pi(("x",), DEFAULT, e, operation(r, var(0))), None), (r,)
+        yield 1, (3, ("k",), (), pi(("x",), DEFAULT, A, e), lam(("y",), DEFAULT, A, operation(r, var(0), var(1)))), (r,)
+        yield 1, (2, ("k",), (), e, e), (r,)
+
+
+def nested():
+    """Operators over operators, of equal priority and of one more or less; an infix one under either operand."""
+    for (one, other), low in product(product(KINDS, KINDS), (1, 24, 1022)):
+        for p, q in ((low, low), (low, low + 1), (low + 1, low)):
+            outer, inner = row(one, p, "*"), row(other, q, name=("inner", other))
+            yield 0, operation(outer, operation(inner, A)), (outer, inner)
+            if one == INFIX:
+                yield 0, operation(outer, A, operation(inner, B, P)), (outer, inner)
+
+
+def signs():
+    """Strings of every kind, in an argument and over each other."""
+    for string, kind in product(SIGNS + ("-" * 300,), KINDS):
+        r = row(kind, 30, string)
+        yield 0, apply(P, operation(r, operation(r, A))), (r,)
+
+
+def operator_names():
+    """Operators of every name: an application by it, one by its prefix, and one by a name that differs in a component's kind."""
+    for n in [n for n in NAMES if len(n) < 9][::3]:
+        r = row(PREFIX, 9, name=n) if n else (PREFIX, (), 9, "-")
+        others = [n[:-1], tuple(str(c) if isinstance(c, int) else c for c in n), n + (0,)]
+        yield 0, apply(P, over(r, A), *(apply(("const", other, ()), A) for other in others)), (r, row(POSTFIX, 9, name=("a", "5")))
+    long = ("a",) * 62
+    r = row(PREFIX, 9, name=long + ("b",))
+    yield 0, apply(P, over(r, A), apply(("const", long + ("c",), ()), A)), (r,)
+
+
+def props():
+    """The sort of zero, and sorts that are not."""
+    zero = ("zero",)
+    for level in (zero, ("max", zero, zero), ("imax", zero, zero), ("succ", zero), ("imax", ("param", ("u",)), zero)):
+        e = ("sort", level)
+        yield 0, apply(e, e)
+        yield 0, pi((), DEFAULT, e, ("proj", ("S",), 0, e))
+        yield 0, lam(("a",), DEFAULT, e, lam(("b",), DEFAULT, ("sort", zero), e))
+        yield 1, (5, ("k",), (level,), e, None)
+
+
+def operators():
+    for part in (arguments, operands, results, nested, signs, operator_names):
         yield from part()
+
+
+def trees():
+    """(mode, tree, notation rows)"""
+    for part in (names, levels, places, pairs, chains, literals, letters, props):
+        for mode, tree in part():
+            yield mode, tree, ()
+    yield from operators()

@@ -12,6 +12,12 @@ HERE = os.path.dirname(os.path.abspath(__file__))
 TESTED = "            tests += not flat\n"
 FITS = "            flat = int(flat or len(listing) + size + distance <= row_start + width)\n"
 EMIT_NEST = '        self.emit(b" " * amount)\n'
+INFIX_DOC = "operands[0], operator.string, empty_break(), operands[1]"
+PREFIX_DOC = "join(group(join(operator.string, empty_break())), operands[0])"
+POSTFIX_DOC = "join(operands[0], empty_break(), operator.string)"
+COUNT_HOLDS = "len(arguments) == (2 if found.kind == INFIX else 1)"
+IF_ZERO = "        if level.kind == 0:\n"
+BY_NAME = "self.pool.operators.get(head.fields[0])"
 RETURN_PAIR = "        return a.row, b.row\n"
 RETURN_CHILDREN = "        return next((d for x, y in zip(children(a), children(b)) if (d := first_difference(x, y, equal))), (a.row, b.row))\n"
 # title, text of model.py, what stands there instead
@@ -26,7 +32,7 @@ FAULTS = (
     ("value not lifted", "value = lift(self.pool, value, len(binders) - taken)", "pass"),
     ("hygienic names are no arrows", " or b.name == () or is_hygienic(b.name))", " or b.name == ())"),
     ("row's end after the indentation", "self.position + self.width\n        self.emit", "self.position + self.width + amount\n        self.emit"),
-    ("longest row without indentation", EMIT_NEST + "\n    def run", EMIT_NEST + "        self.row_start = self.position\n\n    def run"),
+    ("longest row without indentation", EMIT_NEST + "\n    def outside", EMIT_NEST + "        self.row_start = self.position\n\n    def outside"),
     ("lines of bytes of value 10", "self.broken + 1", "self.listing.count(10) + 1"),
     ("lines without the first row", "self.broken + 1", "self.broken"),
     ("end of a letter range included", "(0x03B1, 0x03C9)", "(0x03B1, 0x03CA)"),
@@ -59,6 +65,30 @@ FAULTS = (
     ("compared: equal trees in other rows differ", "or own_fields(a) != own_fields(b):", "or own_fields(a) != own_fields(b) or a.row != b.row:"),
     ("compared: the pair the other way round", RETURN_PAIR, "        return b.row, a.row\n"),
     ("compared: 5 for the last row", "max(first, second) >= pool", "max(first, second) + 1 >= pool"),
+    ("operators: operands swapped", INFIX_DOC, "operands[1], operator.string, empty_break(), operands[0]"),
+    ("operators: the priority for the result", "return operator.priority - 1", "return operator.priority"),
+    ("operators: 1,023 for the result", "return operator.priority - 1", "return 1023"),
+    ("operators: operands under the result's level", "names, operator.priority) for a", "names, operator.priority - 1) for a"),
+    ("operators: operands under 1,024", "names, operator.priority) for a", "names, 1024) for a"),
+    ("operators: over more arguments", COUNT_HOLDS, "len(arguments) >= (2 if found.kind == INFIX else 1)"),
+    ("operators: infix over three arguments", COUNT_HOLDS, "len(arguments) in ((2, 3) if found.kind == INFIX else (1,))"),
+    ("operators: prefix and postfix over two arguments", COUNT_HOLDS, "len(arguments) in ((2,) if found.kind == INFIX else (1, 2))"),
+    ("operators: found by the name's row", BY_NAME, "next((o for name, o in self.pool.operators.items() if name is head.fields[0]), None)"),
+    ("operators: found by the last component", BY_NAME,
+     "next((o for name, o in self.pool.operators.items() if name[-1:] == head.fields[0][-1:]), None)"),
+    ("operators: none of a name with levels", BY_NAME, "self.pool.operators.get(None if head.fields[1] else head.fields[0])"),
+    ("operators: none of the anonymous name", BY_NAME, "self.pool.operators.get(head.fields[0] or None)"),
+    ("operators: none with an empty string", "return found if found and", "return found if found and found.string and"),
+    ("operators: a blank of 1", "return [(BREAK, 0)]", "return [(BREAK, 1)]"),
+    ("operators: prefix without a group", PREFIX_DOC, "join(operator.string, empty_break(), operands[0])"),
+    ("operators: prefix with the operand in the group", PREFIX_DOC, "group(join(operator.string, empty_break(), operands[0]))"),
+    ("operators: infix with the break before the string", INFIX_DOC, "operands[0], empty_break(), operator.string, operands[1]"),
+    ("operators: infix without a nest", "return self.nested_group(join(operands[0]", "return group(join(operands[0]"),
+    ("operators: postfix with the break behind the string", POSTFIX_DOC, "join(operands[0], operator.string, empty_break())"),
+    ("operators: postfix like prefix", "if operator.kind == PREFIX:", "if operator.kind != INFIX:"),
+    ("Prop for max 0 0", IF_ZERO, "        if level.kind == 0 or level.kind == 2 and all(l.kind == 0 for l in level.fields):\n"),
+    ("Prop for imax u 0", IF_ZERO, "        if level.kind == 0 or level.kind == 3 and level.fields[1].kind == 0:\n"),
+    ("no Prop", IF_ZERO, "        if False:\n"),
     ("the anonymous marks as texts of their own", "return part(name_text(name))", 'return part(name_text(name)) if name else join("«", "", "»")'),
 )
 

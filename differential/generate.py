@@ -1,10 +1,11 @@
 """Seeded generator of accepted pools: `Case(seed)` has trees, and `pool(share)` builds them, shared or not, into one pool.
 
-The same seed gives the same trees. Chains are mostly made so that their runs are partitioned (01's domain), some are left free.
+The same seed gives the same trees. Chains are mostly made so that their runs are partitioned (01's domain), some are left free. About a
+third of the cases have notation rows (02, P5), most of these without infix ones, which are outside the domain.
 """
 import random
 
-from pools import Builder, DEFAULT, IMPLICIT, INSTANCE, STRICT
+from pools import Builder, DEFAULT, IMPLICIT, INFIX, INSTANCE, POSTFIX, PREFIX, STRICT
 
 PLAIN = ("a", "b", "c", "x", "y", "n", "h", "P", "Nat", "List", "inst", "α", "β", "γ", "x₈", "x₁", "ℕ", "ℝ", "a!", "b?", "c'", "_",
          "_x",
@@ -15,6 +16,10 @@ ODD = ("b c", "λ", "Π", "Σ", "ω", "Ω", "x₉", "1a", "9", "a.b", "«", "»"
 NUMBERS = (0, 1, 2, 7, 10, 231, 65535, 1 << 31, (1 << 32) - 1, 1 << 32, (1 << 64) - 1)
 LITERALS = ("", "a", "hello", "two\nlines", "\n", "\n\n", "quote\"inside", "tab\t", "→ α", "back\\slash", "日本語",
             "a b c d e f", "\x00", "end\n")
+# At the limits, and next to what 01 has for inner and outer levels.
+PRIORITIES = (1, 2, 24, 25, 26, 512, 1022, 1023)
+SIGNS = ("+", "-", "!", "*", "<=", "++", " + ", "- ", " !", " and also ", "", "→", "⁻¹", "日本", "😀", "@", "(", ")", "a\nb", "\n",
+         "an operator of more words")
 DIGITS = ("0", "1", "7", "10", "42", "1000000", "18446744073709551616", "9" * 40)
 
 
@@ -35,7 +40,10 @@ def lifted(tree, amount, cutoff=0):
 
 
 class Generator:
-    def __init__(self, seed):
+    """`operators`: names that applications are made with; without any, the trees are the same as before there was notation."""
+
+    def __init__(self, seed, operators=()):
+        self.operators = operators
         self.random = random.Random(seed)
         self.chance = lambda p: self.random.random() < p
         self.pick = self.random.choice
@@ -97,7 +105,7 @@ class Generator:
 
     def expr(self, scope, budget):
         if budget <= 1:
-            return self.leaf(scope)
+            return self.operation(scope, 2) if self.operators and self.chance(0.15) else self.leaf(scope)
         r = self.random.random()
         if r < 0.36:
             return self.application(scope, budget)
@@ -112,7 +120,23 @@ class Generator:
             return ("proj", self.name(), self.pick((0, 0, 1, 2, 9, 65534)), self.expr(scope, budget - 1))
         return self.leaf(scope)
 
+    def operation(self, scope, budget):
+        """A constant of the notation over none to four arguments, most often one or two, which may be such applications themselves."""
+        count = self.pick((0, 1, 1, 1, 1, 1, 2, 2, 2, 2, 3, 4))
+        share = budget // (count + 1)
+        e = ("const", self.pick(self.operators), self.levels() if self.chance(0.2) else ())
+        for _ in range(count):
+            e = ("app", e, self.operand(scope, share))
+        return e
+
+    def operand(self, scope, budget):
+        if self.chance(0.06):
+            return ("sort", ("zero",))
+        return self.operation(scope, budget) if budget > 0 and self.chance(0.45) else self.expr(scope, budget)
+
     def application(self, scope, budget):
+        if self.operators and self.chance(0.6):
+            return self.operation(scope, budget)
         count = self.random.randint(1, 4)
         share = max(1, budget // (count + 1))
         e = self.expr(scope, share)
@@ -239,11 +263,52 @@ class Generator:
         return e
 
 
+def operator_names(r):
+    """Names that the trees use anyhow, and some of every shape."""
+    g = Generator(r.getrandbits(64))
+    return tuple(r.choice((("A",), ("f",), ("P",), ("Nat",), g.name(), g.name(), g.name())) for _ in range(r.randint(1, 4)))
+
+
+def heads(tree):
+    """The names of the constants that are applied in a tree, or in a part of a declaration."""
+    found = []
+    for part in tree:
+        if isinstance(part, tuple):
+            found += heads(part)
+    if tree[:1] == ("app",) and tree[1][0] == "const":
+        found.append(tree[1][1])
+    return found
+
+
+def over_itself(r, names):
+    """An operator over an operator and so on."""
+    e = ("const", ("a",), ())
+    for i in range(r.randint(2, 120)):
+        more = r.random() >= 0.8
+        head = ("const", r.choice(names), ())
+        e = ("app", ("app", head, ("var", i)) if more else head, e)
+    return e
+
+
+def notation(r, names, trees):
+    """Rows for the names, for some other heads of the trees, and for names that no tree has; a fifth of the cases may have infix ones."""
+    others = [name for _, tree in trees for name in heads(tree)]
+    chosen = list(names) + r.sample(others, min(len(others), r.choice((0, 0, 1, 2))))
+    chosen += [("unused", i) for i in range(r.choice((0, 0, 1, 3)))]
+    kinds = (PREFIX, INFIX, INFIX, POSTFIX) if r.random() < 0.2 else (PREFIX, POSTFIX)
+    priority = lambda: r.choice(PRIORITIES + (r.randint(1, 1023),) * 3)
+    sign = lambda: r.choice(SIGNS + ("-" * r.randint(1, 60),))
+    return [(r.choice(kinds), name, priority(), sign()) for name in sorted(set(chosen), key=chosen.index)]
+
+
 class Case:
-    """Some trees, each with its mode (0 expression, 1 declaration)."""
+    """Some trees, each with its mode (0 expression, 1 declaration), and notation rows."""
 
     def __init__(self, seed):
-        g = Generator(seed)
+        # apart from the trees, so that those of cases without notation do not depend on it
+        r = random.Random("notation of %d" % seed)
+        operators = operator_names(r) if r.random() < 0.33 else ()
+        g = Generator(seed, operators)
         budget = lambda: g.pick((2, 4, 8, 12, 20, 30, 45))
         self.trees = [(0, g.expr(0, budget())) for _ in range(g.random.randint(1, 2))]
         self.trees += [(1, g.declar(budget())) for _ in range(g.random.randint(1, 2))]
@@ -251,14 +316,24 @@ class Case:
             self.trees.append((0, g.special()))
         if g.chance(0.3):
             self.trees.append((0, g.expr(4, 6)))
+        if operators and r.random() < 0.15:
+            self.trees.append((0, over_itself(r, operators)))
+        self.notation = notation(r, operators, self.trees) if operators else []
         self.random = g.random
         self.seed = seed
 
     def pool(self, share=True):
-        """(bytes, words, [(mode, root)]). With share=None each use is shared or not at random, and unused bytes stand between strings."""
+        """(bytes, words, [(mode, root)]). With share=None each use is shared or not at random, and unused bytes stand between strings. The
+        three pools of a case have their notation rows in different orders; in unshared ones they have names and strings of their own."""
         r = random.Random(self.seed)
         b = Builder(share) if share is not None else Builder(lambda: r.random() < 0.5, lambda: r.choice((b"", b"", b"\xff", b"\x80x")))
+        rows = list(self.notation)
+        random.Random(self.seed).shuffle(rows)
+        for row in (rows, rows[::-1])[share is None] if share is not True else ():
+            b.notation(*row)
         roots = [(mode, b.expr(tree) if mode == 0 else b.declar(*tree)) for mode, tree in self.trees]
+        for row in self.notation if share is True else ():
+            b.notation(*row)
         return b.pool() + (roots,)
 
     def indent(self):

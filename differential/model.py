@@ -7,6 +7,7 @@
     document(pool, mode, root, indent)      the events of a print's document, lazily, in document order
     rows_of(events) -> (rows, text)         layout(rows, text, width) -> Laid          tree_of(events): the document as nested tuples
     pool.exprs[row], pool.declars[row]      trees of an accepted pool                  expr_term(e): the tree as pools.py takes it
+    pool.operators                          its notation rows by their names' trees
     hand_out_text, hand_out_string          document_fault: the place of 9, or None
 
 Areas are Areas(rows, text, listing): a list of words and two bytearrays, which a call changes as 01 says.
@@ -20,10 +21,13 @@ sys.setrecursionlimit(100000)  # the printers call one another as deep as the tr
 # ---------------------------------------------------------------------------------------------------------------------------------
 # Pool and check
 
-STRINGS, NAMES, LEVELS, LISTS, WORDS, EXPRS, DECLARS = range(7)
-ROW_WORDS = (2, 4, 3, 2, 1, 8, 5)
+STRINGS, NAMES, LEVELS, LISTS, WORDS, EXPRS, DECLARS, NOTATION = range(8)
+ROW_WORDS = (2, 4, 3, 2, 1, 8, 5, 4)
+HEAD_WORDS = 8  # P5: "an eighth head word, the count of notation rows behind the declarations"
 VAR, SORT, CONST, APP, PI, LAM, LET, PROJ, NAT, STR = range(10)
+PREFIX, INFIX, POSTFIX = range(3)
 COUNT_LIMIT, BYTE_LIMIT = 65536, 16777216
+LAST_PRIORITY = 1023
 LAST_PROJECTION = 65535
 DOCUMENT_ROWS, DOCUMENT_BYTES, STACK_LIMIT = 16384, 65536, 1024
 
@@ -55,33 +59,41 @@ class Pool:
     def __init__(self, area, words):
         self.area, self.words = bytes(area), list(words)
         self.numbers = {}
-        self.strings, self.names, self.levels, self.lists, self.list_words, self.exprs, self.declars = ([] for _ in range(7))
-        self.trees = (self.strings, self.names, self.levels, self.lists, self.list_words, self.exprs, self.declars)
+        self.strings, self.names, self.levels, self.lists, self.list_words, self.exprs, self.declars, self.notation = ([] for _ in range(8))
+        self.trees = (self.strings, self.names, self.levels, self.lists, self.list_words, self.exprs, self.declars, self.notation)
+        self.operators = {}  # the notation rows by their name trees
 
     @cached_property
     def fault(self):
         '''"Check order as listed; tables in order, rows rising." The trees of the rows are made on the way.'''
         words = self.words
-        if len(words) < 7 or len(words) != 7 + sum(n * w for n, w in zip(words, ROW_WORDS)):
+        if len(words) < HEAD_WORDS or len(words) != HEAD_WORDS + sum(n * w for n, w in zip(words, ROW_WORDS)):
             return 1, 0
-        if max(words[:7]) > COUNT_LIMIT or len(self.area) > BYTE_LIMIT:
+        if max(words[:HEAD_WORDS]) > COUNT_LIMIT or len(self.area) > BYTE_LIMIT:
             return 2, 0
-        at = 7
-        readers = (self.string_row, self.name_row, self.level_row, self.list_row, self.list_word, self.expr_row, self.declar_row)
+        at = HEAD_WORDS
+        readers = (self.string_row, self.name_row, self.level_row, self.list_row, self.list_word, self.expr_row, self.declar_row,
+                   self.notation_row)
         # the list words stand after the lists in the words, and the lists are read from them: their own rules come in order.
         for table, read in enumerate(readers):
             for row in range(words[table]):
                 try:
                     self.trees[table].append(read(row, words[at:at + ROW_WORDS[table]]))
                 except Fault:
-                    return (3 if table == STRINGS else 4), row
+                    return self.number_of(table, row)
                 at += ROW_WORDS[table]
         return 0, 0
+
+    def number_of(self, table, row):
+        '''"3: a string pair. 4: any other row rule."  P5: "31 for a notation row ..., checked after 4", its place being "else 0".'''
+        if table == NOTATION:
+            return 31, 0
+        return (3 if table == STRINGS else 4), row
 
     def string_row(self, row, fields):
         '''"(offset, length) pairs into the byte area, offsets never falling, each UTF-8."'''
         offset, length = fields
-        need(row == 0 or self.words[7 + 2 * (row - 1)] <= offset)
+        need(row == 0 or self.words[HEAD_WORDS + 2 * (row - 1)] <= offset)
         need(offset + length <= len(self.area))
         data = self.area[offset:offset + length]
         try:
@@ -124,7 +136,7 @@ class Pool:
     def list_row(self, row, fields):
         '''"(offset, length) pairs into the Q list words, offsets never falling."  The levels are looked up when asked for.'''
         offset, length = fields
-        start = 7 + 2 * self.words[STRINGS] + 4 * self.words[NAMES] + 3 * self.words[LEVELS]
+        start = HEAD_WORDS + 2 * self.words[STRINGS] + 4 * self.words[NAMES] + 3 * self.words[LEVELS]
         need(row == 0 or self.words[start + 2 * (row - 1)] <= offset)
         need(offset + length <= self.words[WORDS])
         return offset, length
@@ -175,6 +187,19 @@ class Pool:
         value = self.exprs[value] if 2 <= kind <= 4 else None
         return Declar(kind, self.names[name], self.list_levels(levels), self.exprs[type], value)
 
+    def notation_row(self, row, fields):
+        '''P5: "A row has name, kind (0 prefix, 1 infix, 2 postfix), priority 1 to 1,023, string."  Refused is "a notation row outside
+        these rules or a name tree given twice".'''
+        name, kind, priority, string = fields
+        self.refer(NAMES, name)
+        need(kind <= POSTFIX)
+        need(1 <= priority <= LAST_PRIORITY)
+        self.refer(STRINGS, string)
+        name = self.names[name]
+        need(name not in self.operators)
+        self.operators[name] = Operator(kind, priority, self.strings[string])
+        return name
+
     def node(self, table, kind, fields, row):
         '''A tree of its parts. "Loose is the least number above every loose variable index."'''
         n = Node()
@@ -190,6 +215,7 @@ class Pool:
 
 
 Declar = namedtuple("Declar", "kind name levels type value")
+Operator = namedtuple("Operator", "kind priority string")
 
 
 def key_of(field):
@@ -287,6 +313,11 @@ def join(first, *others):
 def blank_break():
     '''"| is a blank break"'''
     return [(BREAK, 1)]
+
+
+def empty_break():
+    '''P5: "the break | at the operator is an empty one"'''
+    return [(BREAK, 0)]
 
 
 def group(d):
@@ -406,6 +437,15 @@ def is_arrow(b):
     return b.is_pi and b.style == 0 and (not b.occurs or b.name == () or is_hygienic(b.name))
 
 
+def spine(e):
+    """What is applied at last, and all arguments in order: none of an expression that is no application."""
+    arguments = []
+    while e.kind == APP:
+        e, argument = e.fields
+        arguments.append(argument)
+    return e, arguments[::-1]
+
+
 def leading(items, holds):
     '''"Runs are leading runs."'''
     n = 0
@@ -434,10 +474,13 @@ class Printer:
         return binders, e
 
     def inner(self, e):
-        '''"inner 1,023", "inner 24", "inner 0"; "Inner 1,024 ... where unsaid."'''
+        '''"inner 1,023", "inner 24", "inner 0"; "Inner 1,024 ... where unsaid."  P5: "the result has priority less 1".'''
         if e.kind in (PI, LAM):
             binder = Binder(e.kind == PI, e.fields[0], e.fields[1], None, occurs(e.fields[3], 0))
             return 24 if is_arrow(binder) else 0
+        operator = self.operator(*spine(e))
+        if operator:
+            return operator.priority - 1
         return {APP: 1023, LET: 0}.get(e.kind, 1024)
 
     def expr(self, e, names, outer=0):
@@ -455,8 +498,11 @@ class Printer:
         return name_doc(names[-1 - index]) if index < len(names) else part(str(index))
 
     def sort(self, e, names):
-        '''""Type"+" "+predecessor if the level is a successor, else "Sort"+" "+level, under 1,024."'''
+        '''""Type"+" "+predecessor if the level is a successor, else "Sort"+" "+level, under 1,024."  P5: "A sort whose level is a row of
+        kind zero prints `Prop`".'''
         level = e.fields[0]
+        if level.kind == 0:
+            return part("Prop")
         if level.kind == 1:
             return join("Type", " ", level_doc(level.fields[0], 1024))
         return join("Sort", " ", level_doc(level, 1024))
@@ -466,12 +512,27 @@ class Printer:
 
     def application(self, e, names):
         '''"tile of G(head under 1,023) and G(each argument under 1,024), all N(G), inner 1,023"'''
-        arguments = []
-        while e.kind == APP:
-            e, argument = e.fields
-            arguments.append(argument)
-        parts = [group(self.expr(e, names, 1023))] + [group(self.expr(a, names, 1024)) for a in reversed(arguments)]
+        head, arguments = spine(e)
+        operator = self.operator(head, arguments)
+        if operator:
+            return self.operation(operator, arguments, names)
+        parts = [group(self.expr(head, names, 1023))] + [group(self.expr(a, names, 1024)) for a in arguments]
         return self.nested_group(tile(parts))
+
+    def operator(self, head, arguments):
+        '''P5: a row "acts on a constant of that name (equal name trees) applied to exactly one argument, or two for infix". Or None.'''
+        found = self.pool.operators.get(head.fields[0]) if head.kind == CONST else None
+        return found if found and len(arguments) == (2 if found.kind == INFIX else 1) else None
+
+    def operation(self, operator, arguments, names):
+        '''P5: "Operands print under the priority"; "G(string+|)+operand for prefix, G(operand+|+string) for postfix,
+        N(G(left+string+|+right)) for infix. Operands stand in argument order".'''
+        operands = [self.expr(a, names, operator.priority) for a in arguments]
+        if operator.kind == PREFIX:
+            return join(group(join(operator.string, empty_break())), operands[0])
+        if operator.kind == POSTFIX:
+            return group(join(operands[0], empty_break(), operator.string))
+        return self.nested_group(join(operands[0], operator.string, empty_break(), operands[1]))
 
     def projection(self, e, names):
         '''"G(structure under 1,024)+"."+(index + 1)"'''

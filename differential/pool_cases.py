@@ -1,4 +1,4 @@
-"""The cases of crates/pool_test: a damaged pool for every rule of document 01 and what stands next to it, and the ranges of the letterlike classes.
+"""The cases of crates/pool_test: a damaged pool for every rule of 01 and 02 and what is next to it; the ranges of the letterlike classes.
 
 `pool_cases.py` makes that crate's stdin (the pools) and stdout (what 01 says of each). Numbers, places and ranges are written here by hand from 01's sentences; the model
 has to give the same numbers and places.
@@ -17,7 +17,7 @@ import os
 import struct
 
 import model
-from pools import DECLARS, EXPRS, LEVELS, LISTS, NAMES, ROW_WORDS, STRINGS, WORDS
+from pools import DECLARS, EXPRS, HEAD_WORDS, LEVELS, LISTS, NAMES, NOTATION, ROW_WORDS, STRINGS, WORDS
 
 CRATE = os.path.join(os.path.dirname(os.path.abspath(__file__)), os.pardir, "crates", "pool_test")
 MOST = 2 ** 32 - 1
@@ -40,7 +40,15 @@ BASE = [
      (7, 1, 65534, 3, 0, 0, 3, 6),  # projection
      (8, 1, 0, 0, 0, 0, 1, 0),  # natural
      (9, 3, 0, 0, 0, 0, 1, 0)],  # string literal
-    [(0, 1, 0, 1, 0), (3, 1, 1, 1, 9), (7, 2, 0, 0, 0)]]  # axiom, def, recursor
+    [(0, 1, 0, 1, 0), (3, 1, 1, 1, 9), (7, 2, 0, 0, 0)],  # axiom, def, recursor
+    [(1, 0, 1, 3), (2, 2, 1023, 0)]]  # prefix, postfix
+
+# Notation alone: of two trees there are two name rows each, and the second string row of "b" is another one of equal bytes.
+NOTED = [
+    [(0, 1), (1, 1), (1, 1), (2, 1)],  # "a" "b" "b" "7"
+    [(0, 0, 0, 0), (1, 0, 0, 0), (1, 0, 1, 0), (1, 0, 2, 0), (2, 2, 7, 0), (2, 3, 7, 0)],  # anonymous, a, b, b again, b.7, b.7 again
+    [], [], [], [], [],
+    [(1, 0, 1, 0), (2, 1, 1023, 1), (4, 2, 512, 2)]]  # a, b and b.7: prefix, infix, postfix
 
 # Title, number and place, and what is changed in the base pool: a table's count, or (table, row, word).
 CHANGED = [
@@ -173,7 +181,47 @@ CHANGED = [
     ("two faults: a string before a name", (3, 3), {(STRINGS, 3, 1): 3, (NAMES, 0, 1): 1}),
     ("two faults: a name before a level", (4, 2), {(NAMES, 2, 0): 3, (LEVELS, 0, 1): 1}),
     ("two faults: a list word before an expression", (4, 1), {(WORDS, 1, 0): 5, (EXPRS, 0, 7): 9}),
-    ("two faults: the total before all", (1, 0), {STRINGS: 5, (STRINGS, 3, 1): 3})]
+    ("two faults: a declaration before notation", (4, 0), {(DECLARS, 0, 0): 8, (NOTATION, 0, 1): 3}),
+    ("two faults: a string before notation", (3, 3), {(STRINGS, 3, 1): 3, (NOTATION, 0, 1): 3}),
+    ("two faults: the total before all", (1, 0), {STRINGS: 5, (STRINGS, 3, 1): 3}),
+    ("notation: one name twice, behind all tables", (31, 0), {(NOTATION, 1, 0): 1}),
+    ("notation: a row that the head does not count", (1, 0), {NOTATION: 1}),
+    ("notation: a row fewer than the head counts", (1, 0), {NOTATION: 3})]
+
+# The same of the pool with notation alone.
+NOTED_CHANGES = [
+    ("nothing changed", 0, {}),
+    ("the first name", 0, {(NOTATION, 0, 0): 0}),
+    ("the last name", 0, {(NOTATION, 2, 0): 5}),
+    ("no such name", 31, {(NOTATION, 2, 0): 6}),
+    ("name 2^32 - 1", 31, {(NOTATION, 0, 0): MOST}),
+    ("kind 2 in the first row", 0, {(NOTATION, 0, 1): 2}),
+    ("kind 3", 31, {(NOTATION, 2, 1): 3}),
+    ("kind 2^32 - 1", 31, {(NOTATION, 0, 1): MOST}),
+    ("priority 0", 31, {(NOTATION, 0, 2): 0}),
+    ("priority 1,023", 0, {(NOTATION, 2, 2): 1023}),
+    ("priority 1,024", 31, {(NOTATION, 1, 2): 1024}),
+    ("priority 65,537", 31, {(NOTATION, 2, 2): 65537}),
+    ("priority 2^32 - 1", 31, {(NOTATION, 0, 2): MOST}),
+    ("the last string", 0, {(NOTATION, 0, 3): 3}),
+    ("one string for all", 0, {(NOTATION, 0, 3): 2, (NOTATION, 1, 3): 2}),
+    ("no such string", 31, {(NOTATION, 1, 3): 4}),
+    ("string 2^32 - 1", 31, {(NOTATION, 2, 3): MOST}),
+    ("one name row twice", 31, {(NOTATION, 2, 0): 1}),
+    ("one name row twice, side by side", 31, {(NOTATION, 1, 0): 1}),
+    ("one tree in two rows of names", 31, {(NOTATION, 0, 0): 3, (NAMES, 3, 2): 1}),
+    ("one tree in two rows of names, of two strings", 31, {(NOTATION, 0, 0): 3}),
+    ("one tree in two rows of names, the higher one first", 31, {(NOTATION, 0, 0): 5}),
+    ("the other row of a name alone", 0, {(NOTATION, 1, 0): 3}),
+    ("a name and its prefix", 0, {(NOTATION, 0, 0): 3, (NOTATION, 1, 0): 0}),
+    ("a number and its digits", 0, {(NAMES, 5, 0): 1, (NAMES, 5, 2): 3, (NOTATION, 0, 0): 5}),
+    ("numbers that differ in the high word", 0, {(NAMES, 5, 3): 1, (NOTATION, 0, 0): 5}),
+    ("numbers behind other prefixes", 0, {(NAMES, 5, 1): 1, (NOTATION, 0, 0): 5}),
+    ("names of an empty string and of none", 0, {(STRINGS, 0, 1): 0, (NOTATION, 1, 0): 0}),
+    ("equal kinds, priorities and strings", 0, {(NOTATION, 1, 1): 0, (NOTATION, 1, 2): 1, (NOTATION, 1, 3): 0}),
+    ("a fault in the last row alone", 31, {(NOTATION, 2, 2): 0}),
+    ("faults in all rows", 31, {(NOTATION, 0, 1): 3, (NOTATION, 1, 2): 0, (NOTATION, 2, 3): 9}),
+    ("another number before", 4, {(NAMES, 0, 1): 1, (NOTATION, 0, 1): 3})]
 
 # Pools of one string: title, number, its bytes.
 UTF8 = [
@@ -222,22 +270,26 @@ def pool(tables):
 
 
 def only(table, rows):
-    return pool([rows if t == table else [] for t in range(7)])
+    return pool([rows if t == table else [] for t in range(HEAD_WORDS)])
 
 
-def word_at(key):
+def word_at(tables, key):
     if isinstance(key, int):
         return key
     table, row, word = key
-    return 7 + sum(w * len(t) for w, t in zip(ROW_WORDS[:table], BASE)) + row * ROW_WORDS[table] + word
+    return HEAD_WORDS + sum(w * len(t) for w, t in zip(ROW_WORDS[:table], tables)) + row * ROW_WORDS[table] + word
+
+
+def with_changes(tables, changes):
+    words = pool(tables)
+    for key, value in changes.items():
+        words[word_at(tables, key)] = value
+    return words
 
 
 def changed():
     for title, answer, changes in CHANGED:
-        words = pool(BASE)
-        for key, value in changes.items():
-            words[word_at(key)] = value
-        yield title, answer, BYTES, words
+        yield title, answer, BYTES, with_changes(BASE, changes)
     yield "natural: a leading zero", (4, 8), b"ab01\xce\xb1", pool(BASE)
     yield "natural: two zeros", (4, 8), b"ab00\xce\xb1", pool(BASE)
 
@@ -246,6 +298,11 @@ def strings():
     for title, number, data in UTF8:
         data = bytes.fromhex(data)
         yield "UTF-8: " + title, (number, 0), data, only(STRINGS, [(0, len(data))])
+
+
+def notation():
+    for title, number, changes in NOTED_CHANGES:
+        yield "notation: " + title, (number, 0), b"ab7", with_changes(NOTED, changes)
 
 
 def depths():
@@ -264,17 +321,17 @@ def depths():
 
 def counts():
     """Rows of zeros: accepted in the first four tables. A byte area over its limit, 16 MiB, does not fit the program's stack and is not run."""
-    names = ("strings", "names", "levels", "lists", "list words", "expressions", "declarations")
+    names = ("strings", "names", "levels", "lists", "list words", "expressions", "declarations", "notation rows")
     for table, name in enumerate(names):
-        for n, number in ((65536, 0 if table < 4 else 4), (65537, 2)):
+        for n, number in ((65536, 0 if table < 4 else 31 if table == NOTATION else 4), (65537, 2)):
             yield "%d %s" % (n, name), (number, 0), b"", only(table, [(0,) * ROW_WORDS[table]] * n)
     yield "no word", (1, 0), b"", []
-    yield "six words", (1, 0), b"", [0] * 6
-    yield "seven words", (0, 0), b"", [0] * 7
+    yield "seven words", (1, 0), b"", [0] * 7
+    yield "eight words", (0, 0), b"", [0] * 8
 
 
 def cases():
-    for part in (changed, strings, depths, counts):
+    for part in (changed, notation, strings, depths, counts):
         yield from part()
 
 

@@ -1,4 +1,4 @@
-"""Builder of document 01's pools: trees in, bytes and words out.
+"""Builder of document 01's pools, with the notation rows of 02 (P5): trees in, bytes and words out.
 
 Trees are plain tuples:
   name         tuple of components, str (or bytes) and int; () is anonymous
@@ -8,15 +8,18 @@ Trees are plain tuples:
                ("let", name, type, value, body, nondep) ("proj", type name, index, structure)
                ("nat", digits) ("str", text)
   declaration  (kind, name, (level, ...), type, value or None)
+  notation     (kind, name, priority, string), the string as str or bytes
 """
 import struct
 
-STRINGS, NAMES, LEVELS, LISTS, WORDS, EXPRS, DECLARS = range(7)
-ROW_WORDS = (2, 4, 3, 2, 1, 8, 5)
+STRINGS, NAMES, LEVELS, LISTS, WORDS, EXPRS, DECLARS, NOTATION = range(8)
+ROW_WORDS = (2, 4, 3, 2, 1, 8, 5, 4)
+HEAD_WORDS = len(ROW_WORDS)  # a count for each table
 LEVEL_KINDS = ("zero", "succ", "max", "imax", "param")
 EXPR_KINDS = ("var", "sort", "const", "app", "pi", "lam", "let", "proj", "nat", "str")
 DECLAR_WORDS = ("axiom", "Quotient primitive", "theorem", "def", "opaque", "inductive", "constructor", "recursor")
 DEFAULT, IMPLICIT, STRICT, INSTANCE = range(4)
+PREFIX, INFIX, POSTFIX = range(3)
 
 
 def name(text):
@@ -169,8 +172,12 @@ class Builder:
         value = self.expr(value) if 2 <= kind <= 4 else 0
         return self.intern(DECLARS, (kind, name, levels, type, value))
 
+    def notation(self, kind, name, priority, string):
+        """A row of its own: no name tree may be given twice."""
+        return self.append(NOTATION, (self.name(name), kind, priority, self.string(string)))
+
     def words(self):
-        """The seven counts and the tables."""
+        """The eight counts and the tables."""
         out = [len(t) for t in self.tables]
         for t in self.tables:
             for row in t:
@@ -181,18 +188,27 @@ class Builder:
         return bytes(self.bytes), self.words()
 
 
-def of_expr(tree, share=True):
-    """(bytes, words, root) of one expression."""
+def of_tree(mode, tree, share=True, notation=()):
+    """(bytes, words, root) of one expression, or of one declaration in mode 1, with these notation rows."""
     b = Builder(share)
-    root = b.expr(tree)
+    root = b.expr(tree) if mode == 0 else b.declar(*tree)
+    for row in notation:
+        b.notation(*row)
     return b.pool() + (root,)
 
 
-def of_declar(tree, share=True):
-    """(bytes, words, root) of one declaration."""
-    b = Builder(share)
-    root = b.declar(*tree)
-    return b.pool() + (root,)
+def of_expr(tree, share=True, notation=()):
+    return of_tree(0, tree, share, notation)
+
+
+def of_declar(tree, share=True, notation=()):
+    return of_tree(1, tree, share, notation)
+
+
+def table(words, number):
+    """The rows of a table of a pool whose total is right."""
+    start, size = HEAD_WORDS + sum(n * w for n, w in zip(words[:number], ROW_WORDS)), ROW_WORDS[number]
+    return [tuple(words[at:at + size]) for at in range(start, start + size * words[number], size)]
 
 
 def pack(words):
@@ -205,8 +221,8 @@ def unpack(data):
 
 def dump(area, words):
     """The pool as text, row by row, without any check."""
-    titles = ("strings", "names", "levels", "lists", "list words", "expressions", "declarations")
-    out, at = [], 7
+    titles = ("strings", "names", "levels", "lists", "list words", "expressions", "declarations", "notation")
+    out, at = [], HEAD_WORDS
     for table, title in enumerate(titles):
         out.append("%s: %d" % (title, words[table]))
         for row in range(words[table]):

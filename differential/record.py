@@ -9,6 +9,7 @@ import directed
 import model
 import rust
 import specimens
+import turned
 from generate import Case, name_shape
 from pools import Builder
 
@@ -18,7 +19,7 @@ INPUT = os.path.join(rust.HERE, "..", "crates", "replay", "stdin")
 MAGIC = struct.unpack("<I", b"TIL1")[0]
 HEAD = 16
 POOL, PRINT = 1, 2
-WORDS_LIMIT, BYTES_LIMIT, LISTING_LIMIT = 4000, 4000, 16384
+WORDS_LIMIT, BYTES_LIMIT, LISTING_LIMIT, POOL_LIMIT = 4000, 4000, 16384, 16384
 SMALL_POOL, SMALL_DOCUMENT = 480, 90  # words, rows
 PoolRecord = namedtuple("PoolRecord", "area words prints")
 # rows and text are None where the document is not recorded; last_text is the last row with text bytes, where a text area one byte short is full
@@ -129,12 +130,25 @@ def first_pools():
 
 
 def directed_pools():
-    """The trees of directed.py, so many to a pool, shared and unshared by turns."""
-    trees = list(directed.trees())
-    for number, at in enumerate(range(0, len(trees), 12)):
+    """The trees of directed.py, so many to a pool, shared and unshared by turns, with all their notation rows."""
+    for number, (trees, notation) in enumerate(together(directed.trees())):
         b = Builder(number % 2 == 0)
-        roots = [(mode, b.expr(t) if mode == 0 else b.declar(*t)) for mode, t in trees[at:at + 12]]
+        roots = [(mode, b.expr(t) if mode == 0 else b.declar(*t)) for mode, t in trees]
+        for row in notation:
+            b.notation(*row)
         yield b.pool() + ([(m, r, (2, 4, 0)[i % 3], (120, 10, 30, 0, 18)[(i + number) % 5]) for i, (m, r) in enumerate(roots)],)
+
+
+def together(trees):
+    """Twelve trees at a time, and eight with the notation rows of all; fewer where two rows would give one name twice."""
+    some, rows = [], {}
+    for mode, tree, notation in trees:
+        if len(some) >= (8 if rows else 12) or any(rows.get(row[1], row) != row for row in notation):
+            yield some, list(rows.values())
+            some, rows = [], {}
+        some.append((mode, tree))
+        rows.update((row[1], row) for row in notation)
+    yield some, list(rows.values())
 
 
 def random_pools(seed):
@@ -160,9 +174,10 @@ def last_text(rows):
 
 
 def asked(program, area, words, prints):
-    """The prints that the Rust answers inside the domain, with the counts that its own document and listing have."""
+    """The prints that the Rust answers inside the domain, or would but for infix rows, whose operands it is given turned; with the counts
+    that its own document and listing have."""
     requests = [rust.Request(*p, area, words) for p in prints]
-    for q, reply in zip(requests, rust.ask(program, requests)):
+    for q, reply in zip(requests, rust.ask(program, [turned.request(q) for q in requests])):
         if reply.status == rust.PRINTED and reply.in_domain and len(reply.listing) < LISTING_LIMIT:
             counts = rust.counts(reply, q.width)
             assert counts is not None, "listing and document of the Rust do not agree"
@@ -187,6 +202,7 @@ def make(program, prints, documents, seed):
         if kept >= prints:
             return records
         found = PoolRecord(area, words, list(asked(program, area, words, asks)))
+        assert len(words) < WORDS_LIMIT and len(area) < BYTES_LIMIT and len(pool_bytes(found._replace(prints=[]))) <= POOL_LIMIT
         crosscheck(found)
         out = []
         for i, p in enumerate(found.prints[:prints - kept]):
@@ -208,7 +224,7 @@ class Figures:
         self.prints = Counter()
 
     def take(self, pool, p):
-        reached = set()
+        reached, self.printer = set(), model.Printer(pool, 0)
         if p.mode == 0:
             reached.add("print expression")
             self.expr(pool.exprs[p.root], reached)
@@ -225,6 +241,9 @@ class Figures:
         self.prints["width " + next(name for name, top in WIDTHS if p.width <= top)] += 1
         self.prints["indent " + ("0" if p.indent == 0 else "1-8" if p.indent <= 8 else "9-64")] += 1
         self.prints["broken" if p.counts[3] > 1 else "one line"] += 1
+        if pool.operators:
+            self.prints["notation: rows in the pool"] += 1
+            self.prints["notation: infix rows in the pool"] += any(o.kind == model.INFIX for o in pool.operators.values())
 
     def name(self, name, reached):
         reached.add("name: " + name_shape(name))
@@ -246,14 +265,19 @@ class Figures:
                 continue
             seen.add(e)
             reached.add("expression: " + KINDS[e.kind])
+            operator = self.printer.operator(*model.spine(e)) if e.kind == model.APP else None
+            if operator:
+                reached.add("operator: " + ("prefix", "infix", "postfix")[operator.kind])
             if e.kind == model.SORT:
+                reached.add("sort: " + ("Prop" if e.fields[0].kind == 0 else "of another level"))
                 self.level(e.fields[0], reached)
                 continue
             if e.kind in (model.PI, model.LAM):
                 reached.add("style: " + ("default", "implicit", "strict", "instance")[e.fields[1]])
             if e.kind in (model.CONST, model.PI, model.LAM, model.LET):
                 self.name(e.fields[0], reached)
-            stack += [f for f in e.fields if isinstance(f, model.Node)]
+            # what an application of an application is no part of: its function by itself
+            stack += model.spine(e)[1] + [model.spine(e)[0]] if e.kind == model.APP else [f for f in e.fields if isinstance(f, model.Node)]
 
 
 KINDS = ("variable", "sort", "constant", "application", "pi", "lambda", "let", "projection", "natural", "string literal")
@@ -275,7 +299,7 @@ def main():
         program, why = rust.build()
         if program is None:
             sys.exit("No corpus can be made: %s." % why)
-        records = make(program, 4500, 450, 2026)
+        records = make(program, 4800, 450, 2026)
         os.makedirs(os.path.dirname(PATH), exist_ok=True)
         for path in (PATH, INPUT):
             with open(path, "wb") as f:

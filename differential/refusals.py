@@ -2,7 +2,7 @@
 
 The Rust refuses nothing. `cases()` gives (title, call, expected (number, place)); `judged(program)` what is wrong with the answers."""
 import product
-from pools import Builder, DECLARS, EXPRS, LEVELS, LISTS, NAMES, STRINGS, WORDS, const, of_declar, of_expr
+from pools import Builder, DECLARS, EXPRS, INFIX, LEVELS, LISTS, NAMES, NOTATION, POSTFIX, PREFIX, STRINGS, WORDS, const, of_declar, of_expr
 from specimens import NAT, deep, doubled, nested_chains, pi, sort, var
 
 ARROW = pi("n", NAT, NAT)  # 17 rows, 12 text bytes, 13 listed
@@ -18,6 +18,8 @@ def base():
     b.list((("zero",),))
     b.declar(0, ("k",), (), NAT)
     b.declar(3, ("k",), (), NAT, var(0))
+    b.notation(PREFIX, ("k",), 1, "ab")
+    b.notation(INFIX, ("Nat",), 1023, "é")
     return b
 
 
@@ -46,19 +48,19 @@ def with_row(table, fields):
 
 
 def string_check(*pairs, area=b"abcdef\xc3\xa9\xed\xa0\x80\xc0\x80\xf4\x90\x80\x80"):
-    return check(area, [len(pairs), 0, 0, 0, 0, 0, 0] + [w for p in pairs for w in p])
+    return check(area, [len(pairs), 0, 0, 0, 0, 0, 0, 0] + [w for p in pairs for w in p])
 
 
 def counts_and_strings():
     area, words = base().pool()
-    yield "six words", check(b"", [0] * 6), (1, 0)
-    yield "no row at all", check(b"", [0] * 7), (0, 0)
+    yield "seven words", check(b"", [0] * 7), (1, 0)
+    yield "no row at all", check(b"", [0] * 8), (0, 0)
     yield "a word too many", check(area, words + [0]), (1, 0)
     yield "a word too few", check(area, words[:-1]), (1, 0)
-    yield "a count over its limit, total wrong", check(b"", [65537] + [0] * 6), (1, 0)
-    yield "65,537 list words, total right", check(b"", [0, 0, 0, 0, 65537, 0, 0] + [0] * 65537), (2, 0)
-    yield "byte area over its limit", check(bytes(16777217), [0] * 7), (2, 0)
-    yield "byte area at its limit", check(bytes(16777216), [0] * 7), (0, 0)
+    yield "a count over its limit, total wrong", check(b"", [65537] + [0] * 7), (1, 0)
+    yield "65,537 list words, total right", check(b"", [0, 0, 0, 0, 65537, 0, 0, 0] + [0] * 65537), (2, 0)
+    yield "byte area over its limit", check(bytes(16777217), [0] * 8), (2, 0)
+    yield "byte area at its limit", check(bytes(16777216), [0] * 8), (0, 0)
     yield "offsets fall", string_check((1, 1), (0, 1)), (3, 1)
     yield "offsets equal, pairs overlap", string_check((1, 3), (1, 1), (2, 1)), (0, 0)
     yield "past the end", string_check((0, 1), (16, 2)), (3, 1)
@@ -117,6 +119,108 @@ def expressions_declarations():
     b = base()
     b.tables[STRINGS][1], b.tables[NAMES][0], b.tables[DECLARS][0] = (99, 1), (7, 0, 0, 0), (9, 0, 0, 0, 0)
     yield "faults in three tables", check(*b.pool()), (3, 1)
+
+
+# Names for the rows below: more rows than one of a tree, by one string row and by two with equal bytes; and what is near to these.
+NAMED = [(0, 0, 0, 0), (1, 0, 0, 0), (0, 0, 0, 0), (1, 2, 0, 0), (1, 0, 1, 0), (2, 1, 7, 0), (2, 3, 7, 0), (2, 0, 7, 0), (2, 0, 7, 1),
+         (1, 0, 2, 0)]
+ANON, A, ANON_AGAIN, A_AGAIN, A_IN_OTHER_STRING, A_7, A_7_AGAIN, SEVEN, SEVEN_AND_2_TO_32, TEXT_7 = range(10)
+
+
+def notation_pool(*rows):
+    """A pool of strings, names and these notation rows: (name, kind, priority, string)."""
+    b = Builder()
+    b.bytes = bytearray(b"aa7")
+    b.tables[STRINGS], b.tables[NAMES], b.tables[NOTATION] = [(0, 1), (1, 1), (2, 1)], list(NAMED), list(rows)
+    return b
+
+
+def notation_check(*rows):
+    return check(*notation_pool(*rows).pool())
+
+
+def twice(one, other):
+    """Rows for two names, with another between them."""
+    return notation_check((one, 0, 9, 0), (A_7, 1, 9, 0), (other, 2, 8, 1))
+
+
+def notation_rules():
+    row, most = (A, PREFIX, 9, 1), 2 ** 32 - 1
+    good = (("the first name", (ANON, 0, 9, 1)), ("the last name", (TEXT_7, 0, 9, 1)), ("priority 1", (A, 0, 1, 1)),
+            ("priority 1,023", (A, 0, 1023, 1)), ("the last string", (A, 0, 9, 2)), ("infix", (A, 1, 9, 1)), ("postfix", (A, 2, 9, 1)))
+    for title, fields in good:
+        yield "notation: %s" % title, notation_check(fields), (0, 0)
+    bad = (("no such name", 0, 10), ("name 2^32 - 1", 0, most), ("kind 3", 1, 3), ("kind 2^32 - 1", 1, most), ("priority 0", 2, 0),
+           ("priority 1,024", 2, 1024), ("priority 65,537", 2, 65537), ("priority 2^32 - 1", 2, most), ("no such string", 3, 3),
+           ("string 2^32 - 1", 3, most))
+    for title, word, value in bad:
+        fields = row[:word] + (value,) + row[word + 1:]
+        yield "notation: %s" % title, notation_check(fields), (31, 0)
+        yield "notation: %s in the last of three rows" % title, notation_check((SEVEN, 2, 1, 0), (A_7, 1, 1023, 2), fields), (31, 0)
+    yield "notation: a row of zeros", notation_check((0, 0, 0, 0)), (31, 0)
+    yield "notation: one row and no string", check(b"", [0, 1, 0, 0, 0, 0, 0, 1, 0, 0, 0, 0, 0, 0, 9, 0]), (31, 0)
+    yield "notation: one row and no name", check(b"", [1, 0, 0, 0, 0, 0, 0, 1, 0, 0, 0, 0, 9, 0]), (31, 0)
+
+
+def notation_names():
+    """A name's tree given twice, and trees that are near to each other."""
+    for title, one, other in (("one row", A, A), ("rows of one string", A, A_AGAIN), ("strings of equal bytes", A, A_IN_OTHER_STRING),
+                              ("strings of equal bytes, turned", A_IN_OTHER_STRING, A), ("the anonymous one", ANON, ANON),
+                              ("anonymous rows", ANON, ANON_AGAIN), ("a number", SEVEN, SEVEN)):
+        yield "notation: a name twice, %s" % title, twice(one, other), (31, 0)
+    yield "notation: a name twice, of the row between", twice(A, A_7_AGAIN), (31, 0)
+    yield "notation: a name twice, rows in all alike", notation_check((A, 0, 9, 0), (A, 0, 9, 0)), (31, 0)
+    for title, one, other in (("a number and its digits", SEVEN, TEXT_7), ("numbers alike in 32 bits", SEVEN, SEVEN_AND_2_TO_32),
+                              ("a name and its prefix", A, ANON), ("a number and a text", SEVEN, A)):
+        yield "notation: two names, %s" % title, twice(one, other), (0, 0)
+    yield "notation: equal strings, kinds and priorities", notation_check((A, 0, 9, 0), (SEVEN, 0, 9, 0)), (0, 0)
+    deep = ("a",) * 62
+    for title, one, other, expected in (("in the first component", ("b",) + deep, ("c",) + deep, (0, 0)),
+                                        ("in the last component", deep + ("b",), deep + ("c",), (0, 0)), ("in nothing", deep, deep, (31, 0))):
+        b = Builder(False)
+        b.notation(PREFIX, one, 9, "-")
+        b.notation(PREFIX, other, 9, "-")
+        yield "notation: long names of their own rows that differ %s" % title, check(*b.pool()), expected
+    many = [(0, 0, 0, 0)] + [(2, 0, n, 0) for n in range(65535)]
+    rows = [(n, n % 3, 1 + n % 1023, n % 3) for n in range(65535)]
+    for title, last, expected in (("for as many names", 65535, (0, 0)), ("the last for the first one's name", 0, (31, 0))):
+        b = notation_pool()
+        b.tables[NAMES], b.tables[NOTATION] = many, rows + [(last, 0, 1, 0)]
+        yield "65,536 notation rows, " + title, check(*b.pool()), expected
+    yield "65,537 notation rows, total right", check(b"", [0] * 7 + [65537] + [0] * (4 * 65537)), (2, 0)
+    yield "65,536 notation rows of zeros", check(b"", [0] * 7 + [65536] + [0] * (4 * 65536)), (31, 0)
+
+
+def notation_order():
+    """31 after 1 to 4, and before all that is refused later."""
+    area, words = base().pool()
+    yield "a head of seven words before all tables", check(area, words[:7] + words[8:]), (1, 0)
+    b = base()
+    b.tables[NOTATION] = []
+    old = b.pool()[1]
+    yield "no notation rows", check(area, old), (0, 0)
+    yield "a head of seven words and no notation rows", check(area, old[:7] + old[8:]), (1, 0)
+    yield "a notation row too few", check(area, words[:-4]), (1, 0)
+    yield "a notation row too many", check(area, words + [0, 0, 9, 0]), (1, 0)
+    yield "a notation row of three words", check(area, words[:-1]), (1, 0)
+    for table, row, value, number in ((STRINGS, 1, 99, 3), (NAMES, 0, 7, 4), (LEVELS, 1, 5, 4), (EXPRS, 2, 10, 4), (DECLARS, 1, 9, 4)):
+        b = base()
+        b.tables[NOTATION][0] = (0, 3, 0, 99)
+        b.tables[table][row] = (value,) + b.tables[table][row][1:]
+        yield "a faulty notation row, and one in table %d before it" % table, check(*b.pool()), (number, row)
+    b = base()
+    b.tables[NOTATION][1] = b.tables[NOTATION][0]
+    pool = b.pool()
+    yield "a name twice, behind rows of all tables", check(*pool), (31, 0)
+    for mode in (0, 1):
+        call = product.Call(mode, *pool, 0, 2, 80, (7 * 99, 99, 999))
+        yield "31, print in mode %d" % mode, call, (31, 0)
+        yield "31 before 5, print in mode %d" % mode, call._replace(root=99), (31, 0)
+        yield "31 before 6, print in mode %d: width" % mode, call._replace(width=65536), (31, 0)
+        yield "31 before 6, print in mode %d: indent" % mode, call._replace(indent=65), (31, 0)
+        yield "31 before 20, print in mode %d" % mode, call._replace(lengths=(0, 0, 0)), (31, 0)
+    yield "31, two rows compared", compared(0, 1, pool), (31, 0)
+    yield "31 before 5, two rows compared", compared(99, 99, pool), (31, 0)
 
 
 def called(tree, rows=7 * 17, text=12, listing=13, indent=2, width=13, root=None, mode=0):
@@ -186,6 +290,44 @@ def names():
     for more, expected in ((0, (0, 0)), (1, (8, 1))):
         long = ("const", ("b " + "c" * (65529 + more),), ())
         yield "%s with @ and marks" % ("65,536 bytes", "65,537 bytes")[more], called(long, 7 * 4, 65536, 65536), expected
+
+
+def operated(kind, string, rows, text, listing=99):
+    """An operator of priority 9 over one operand or two, in areas of these lengths."""
+    tree = const("f")
+    for operand in "ab" if kind == INFIX else "a":
+        tree = ("app", tree, const(operand))
+    area, words, root = of_expr(tree, True, [(kind, ("f",), 9, string)])
+    return product.Call(0, area, words, root, 2, 80, (7 * rows, text, listing))
+
+
+def operators():
+    """-@a has nine rows: its string, break, join and group, @ and a and their join, a join, the group round all. @a! has nine too, and
+    @a+@b has fourteen."""
+    yield "prefix in areas just long enough", operated(PREFIX, "--", 9, 4, 4), (0, 0)
+    yield "prefix, an empty string", operated(PREFIX, "", 9, 2, 2), (0, 0)
+    yield "prefix, no room for its string's last byte", operated(PREFIX, "--", 9, 1), (21, 0)
+    yield "prefix, no room for its string's row", operated(PREFIX, "--", 0, 2), (20, 0)
+    yield "prefix, an empty string and no room for its row", operated(PREFIX, "", 0, 0), (20, 0)
+    yield "prefix, no room for the break", operated(PREFIX, "--", 1, 9), (20, 1)
+    yield "prefix, no room for the operand's last byte", operated(PREFIX, "--", 9, 3), (21, 5)
+    yield "prefix, no room for the join of both", operated(PREFIX, "--", 7, 9), (20, 7)
+    yield "infix in areas just long enough", operated(INFIX, "+", 14, 5, 5), (0, 0)
+    yield "infix, no room for its string's byte", operated(INFIX, "+", 14, 2), (21, 3)
+    yield "infix, no room for its string's row", operated(INFIX, "+", 3, 5), (20, 3)
+    yield "infix, no room for the break", operated(INFIX, "+", 5, 5), (20, 5)
+    yield "infix, no room for the right operand's byte", operated(INFIX, "+", 14, 4), (21, 8)
+    yield "infix, no room for the nest", operated(INFIX, "+", 12, 5), (20, 12)
+    yield "infix, listing area a byte short", operated(INFIX, "+", 14, 5, 4), (22, 0)
+    yield "postfix in areas just long enough", operated(POSTFIX, "!", 9, 3, 3), (0, 0)
+    yield "postfix, no room for its string's byte", operated(POSTFIX, "!", 9, 2), (21, 5)
+    yield "postfix, no room for the break", operated(POSTFIX, "!", 3, 9), (20, 3)
+    yield "postfix, no room for the group", operated(POSTFIX, "!", 7, 3), (20, 7)
+    for more, expected in ((0, (0, 0)), (1, (8, 5)), (3, (8, 0))):
+        yield "prefix, %d text bytes" % (65536 + more), operated(PREFIX, "-" * (65534 + more), 9, 65536, 65537), expected
+    prop = of_expr(sort(("zero",)))
+    for text, expected in ((4, (0, 0)), (3, (21, 0))):
+        yield "Prop in a text area of %d bytes" % text, product.Call(0, *prop, 2, 80, (7 * 2, text, 4)), expected
 
 
 GIVEN = [(0, 0, 1, 1, 1, 1, 0), (2, 1, 0, 1, 1, 0, 1), (1, 0, 0, 3, 2, 1, 1), (0, 1, 2, 1, 2, 2, 0), (1, 0, 0, 5, 4, 1, 1),
@@ -269,7 +411,7 @@ def comparisons():
         yield "the first row missing, %d" % missing, compared(missing, 0), (5, 0)
         yield "the second row missing, %d" % missing, compared(0, missing), (5, 0)
         yield "both rows missing, %d" % missing, compared(missing, missing), (5, 0)
-    yield "rows of a pool without expressions", compared(0, 0, (b"", [0] * 7)), (5, 0)
+    yield "rows of a pool without expressions", compared(0, 0, (b"", [0] * 8)), (5, 0)
     area, words = base().pool()
     yield "a missing row of a pool with a word too many", compared(rows, 0, (area, words + [0])), (1, 0)
     b = base()
@@ -279,13 +421,14 @@ def comparisons():
     b = base()
     b.tables[STRINGS][1] = (99, 1)
     yield "a faulty string, and both rows missing", compared(99, 99, b.pool()), (3, 1)
-    full = [0, 0, 0, 0, 0, 65536, 0] + [0, 0, 0, 0, 0, 0, 1, 1] * 65536
+    full = [0, 0, 0, 0, 0, 65536, 0, 0] + [0, 0, 0, 0, 0, 0, 1, 1] * 65536
     yield "the last of 65,536 rows", compared(65535, 65535, (b"", full)), (0, 0)
     yield "one past the last of 65,536 rows", compared(65535, 65536, (b"", full)), (5, 0)
 
 
 def cases():
-    for part in (counts_and_strings, names_levels_lists, expressions_declarations, prints, names, documents, pending_areas, comparisons):
+    for part in (counts_and_strings, names_levels_lists, expressions_declarations, notation_rules, notation_names, notation_order, prints,
+                 operators, names, documents, pending_areas, comparisons):
         yield from part()
 
 
@@ -328,7 +471,7 @@ def areas_hold(call, answer):
         return True
     rows, text, listing = answer.areas
     untouched = lambda a, fill: all(x == fill for x in a)
-    if answer.number <= 6 and answer.number != 0:
+    if answer.number in (1, 2, 3, 4, 31, 5, 6):
         return untouched(rows, product.FILL * 0x01010101) and untouched(text, product.FILL) and untouched(listing, product.FILL)
     if answer.number in (7, 8, 20, 21):
         return not any(rows) and not any(text) and untouched(listing, product.FILL)

@@ -9,6 +9,7 @@ HERE = os.path.dirname(os.path.abspath(__file__))
 OUT = os.path.join(HERE, "..", "target", "differential")
 NOT_AT_HAND = 3  # status of harness/build
 EXPRESSION, DECLARATION, LAYOUT = range(3)
+TURNED = 16  # added to the mode of a print where infix operands have been put the other way round (turned.py)
 PRINTED, PANICKED, NO_ANSWER = range(3)
 
 Request = namedtuple("Request", "mode root indent width area words")

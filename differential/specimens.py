@@ -1,4 +1,4 @@
-"""The specimens of document 01, and the smallest inputs where 01 and the published Rust part; run through model and Rust.
+"""The specimens of documents 01 and 02, and the smallest inputs where these and the published Rust part; run through model and Rust.
 
     specimens.py            prints each specimen and each difference
     specimens.py --smallest counts the differences among all small chains
@@ -10,11 +10,13 @@ from collections import Counter, namedtuple
 import model
 import product
 import rust
-from pools import DECLAR_WORDS, DEFAULT, IMPLICIT, INSTANCE, STRICT, apply, const, of_declar, of_expr, param, succ
+import turned
+from pools import DECLAR_WORDS, DEFAULT, IMPLICIT, INFIX, INSTANCE, POSTFIX, PREFIX, STRICT
+from pools import apply, const, of_declar, of_expr, of_tree, param, succ
 
 EXPRESSION, DECLARATION = 0, 1
 WORDS = DECLAR_WORDS
-Specimen = namedtuple("Specimen", "title starred mode tree width listing counts")
+Specimen = namedtuple("Specimen", "title starred mode tree width listing counts notation", defaults=((),))
 # `listing` is what 01 gives, or None where a number refuses; `rust` what the Rust is known to give.
 Difference = namedtuple("Difference", "title mode pool root indent width listing refusal rust")
 Outcome = namedtuple("Outcome", "listing refusal counts")
@@ -38,8 +40,8 @@ def var(index):
     return ("var", index)
 
 
-def expression(title, starred, tree, listing, width=120, counts=None):
-    return Specimen(title, starred, EXPRESSION, tree, width, listing, counts)
+def expression(title, starred, tree, listing, width=120, counts=None, notation=()):
+    return Specimen(title, starred, EXPRESSION, tree, width, listing, counts, notation)
 
 
 def named(components, text):
@@ -57,11 +59,14 @@ def deep(depth):
 FOUR_LAMBDAS = lam("a", const("A"), lam("b", const("B"), lam("c", const("A"), lam("d", const("A"), var(0)))))
 MAX = ("max", U, V)
 K_TYPE = pi("a", sort(U), sort(U))
+NEG, ADD, FAC = (PREFIX, ("neg",), 75, "-"), (INFIX, ("add",), 65, "+"), (POSTFIX, ("fac",), 80, "!")
+SUM, NEG_A = apply(const("add"), const("a"), const("b")), apply(const("neg"), const("a"))
 
 SPECIMENS = [
     expression("variable 0 alone", True, var(0), "0"),
     expression("pi over variable 5", True, pi("x", var(5), const("C")), "6 → @C"),
-    expression("sort of 0", False, sort(("zero",)), "Sort 0"),
+    expression("sort of 0", False, sort(("zero",)), "Prop"),
+    expression("sort of max 0 0", False, sort(("max", ("zero",), ("zero",))), "Sort (max 0 0)"),
     expression("sort of 1", False, sort(succ(("zero",))), "Type 0"),
     expression("sort of u+2", False, sort(succ(U, 2)), "Type (u+1)"),
     expression("sort of max u v", False, sort(MAX), "Sort (max u v)"),
@@ -79,6 +84,20 @@ SPECIMENS = [
     Specimen("definition with value c", True, DECLARATION, (3, ("k",), (U,), K_TYPE, const("c")), 120,
              "def k.{u} : Sort u → Sort u := @c", None),
     expression("projection 65,534", False, ("proj", ("S",), 65534, const("s")), "@s.65535"),
+    expression("prefix", False, NEG_A, "-@a", 3, (9, 3, 3, 1, 3), [NEG]),
+    expression("prefix, broken", False, NEG_A, "-\n@a", 2, (9, 3, 4, 2, 2), [NEG]),
+    expression("prefix over itself", False, apply(const("neg"), NEG_A), "-(-@a)", notation=[NEG]),
+    expression("infix", False, SUM, "@a+@b", 5, (14, 5, 5, 1, 5), [ADD]),
+    expression("infix, broken", False, SUM, "@a+\n  @b", 4, (14, 5, 8, 2, 4), [ADD]),
+    expression("infix over itself", False, apply(const("add"), SUM, SUM), "(@a+@b)+(@a+@b)", notation=[ADD]),
+    expression("infix over prefix and postfix", False, apply(const("add"), NEG_A, apply(const("fac"), const("b"))), "-@a+@b!",
+               notation=[ADD, NEG, FAC]),
+    expression("prefix over infix", False, apply(const("neg"), SUM), "-(@a+@b)", notation=[NEG, ADD]),
+    expression("postfix", False, apply(const("fac"), const("a")), "@a!", 3, (9, 3, 3, 1, 3), [FAC]),
+    expression("postfix, broken", False, apply(const("fac"), const("a")), "@a\n!", 2, (9, 3, 4, 2, 2), [FAC]),
+    expression("one argument more, and one less", False, apply(const("neg"), SUM, apply(const("add"), const("a"))),
+               "@neg (@a+@b) (@add @a)", notation=[NEG, ADD]),
+    expression("an operator as an argument", False, apply(const("f"), NEG_A), "@f (-@a)", notation=[NEG]),
     expression("depth 256", False, deep(256), "@f (" * 254 + "@f @c" + ")" * 254, 65535),
 ]
 
@@ -105,8 +124,8 @@ def binders(roles, body):
     return body
 
 
-def difference(title, tree, listing, rust_gives, mode=EXPRESSION, refusal=None, indent=2, width=120, share=True):
-    area, words, root = (of_expr if mode == EXPRESSION else of_declar)(tree, share)
+def difference(title, tree, listing, rust_gives, mode=EXPRESSION, refusal=None, indent=2, width=120, share=True, notation=()):
+    area, words, root = of_tree(mode, tree, share, notation)
     return Difference(title, mode, (area, words), root, indent, width, listing, refusal, rust_gives)
 
 
@@ -151,6 +170,18 @@ def styles():
     brackets = {DEFAULT: "@A → @B", IMPLICIT: "forall {x : @A}, @B", STRICT: "forall {{x : @A}}, @B", INSTANCE: "forall [x : @A], @B"}
     return [difference("`Default` in `is_arrow`, style %d" % s, pi("x", const("A"), const("B"), s), text, text)
             for s, text in brackets.items()]
+
+
+def turned_operands():
+    """Infix rows: the Rust lists the operands the other way round."""
+    equal, more = apply(const("add"), const("a"), const("a")), apply(SUM, const("c"))
+    return [difference("infix, two operands", SUM, "@a+@b", "@b+@a", notation=[ADD]),
+            difference("infix, equal operands: outside the domain, yet equal", equal, "@a+@a", "@a+@a", notation=[ADD]),
+            difference("infix, three arguments: outside the domain, yet equal", more, "@add @a @b @c", "@add @a @b @c", notation=[ADD])]
+
+
+def all_differences():
+    return outside_runs() + styles() + beyond_limits() + turned_operands()
 
 
 def beyond_limits():
@@ -218,7 +249,7 @@ def by_model(mode, pool, root, indent, width):
 
 
 def specimen_pool(s):
-    return (of_expr if s.mode == EXPRESSION else of_declar)(s.tree)
+    return of_tree(s.mode, s.tree, True, s.notation)
 
 
 def judged(program, of_product=None):
@@ -227,7 +258,7 @@ def judged(program, of_product=None):
     for s, (area, words, root) in zip(SPECIMENS, pools):
         o = by_model(s.mode, (area, words), root, 2, s.width)
         yield o.listing == s.listing and (s.counts is None or o.counts[:5] == s.counts), "specimen by the model: %s: %r" % (s.title, o)
-    differences = outside_runs() + styles() + beyond_limits()
+    differences = all_differences()
     for d in differences:
         o = by_model(d.mode, d.pool, d.root, d.indent, d.width)
         good = (o.refusal or (None,))[0] == d.refusal and (d.listing in ("", None) or o.listing == d.listing)
@@ -249,11 +280,16 @@ def judged_product(program, asked, titles):
 
 
 def judged_rust(program, pools, differences):
-    asked = [rust.Request(s.mode, root, 2, s.width, area, words) for s, (area, words, root) in zip(SPECIMENS, pools)]
+    asked = [turned.request(rust.Request(s.mode, root, 2, s.width, area, words)) for s, (area, words, root) in zip(SPECIMENS, pools)]
     for s, reply in zip(SPECIMENS, rust.ask(program, asked)):
         expected = "fun (a b c d : @A) => d" if s.title == "four lambdas" else s.listing
         good = reply.listing.decode() == expected and reply.in_domain == (expected == s.listing)
         yield good, "specimen by the Rust: %s: %r" % (s.title, reply.listing)
+    # as they stand: infix rows put them outside the domain, and one whose operands are not equal prints otherwise
+    infix = [s for s in SPECIMENS if s.mode == EXPRESSION and any(row[0] == INFIX for row in s.notation)]
+    as_it_stands = [rust.Request(s.mode, root, 2, s.width, area, words) for s in infix for area, words, root in [specimen_pool(s)]]
+    for s, reply in zip(infix, rust.ask(program, as_it_stands)):
+        yield not reply.in_domain, "specimen by the Rust, in its domain: %s: %r" % (s.title, reply.listing)
     for d, reply in zip(differences, replies(program, differences)):
         good = reply.status != rust.PRINTED if d.rust is None else reply.status == rust.PRINTED
         yield good and (d.rust in ("", None) or reply.listing.decode() == d.rust), "difference by the Rust: %s: %r" % (d.title, reply[:3])
@@ -272,14 +308,14 @@ def show(program):
         area, words, root = specimen_pool(s)
         o = by_model(s.mode, (area, words), root, 2, s.width)
         print("%s%s: %s" % ("*" if s.starred else " ", s.title, short(o.listing)))
-    differences = outside_runs() + styles() + beyond_limits()
+    differences = all_differences()
     by_rust = replies(program, differences) if program else [None] * len(differences)
     for d, reply in zip(differences, by_rust):
         o = by_model(d.mode, d.pool, d.root, d.indent, d.width)
-        print("\n%s\n  01:   %s" % (d.title, "refused %d at %d" % o.refusal if o.refusal else short(o.listing)))
+        print("\n%s\n  ours: %s" % (d.title, "refused %d at %d" % o.refusal if o.refusal else short(o.listing)))
         if reply:
             said = short(reply.listing.decode()) if reply.status == 0 else ("", "panics", "no answer in 3 seconds")[reply.status]
-            print("  Rust: %s%s" % (said, "" if reply.in_domain else "   (runs not partitioned)"))
+            print("  Rust: %s%s" % (said, "" if reply.in_domain else "   (outside the domain)"))
 
 
 if __name__ == "__main__":

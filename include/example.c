@@ -1,18 +1,23 @@
-/* Prints one declaration of a pool typed by hand, `axiom k : @C`, hands out the document's first text, shows what a refusal looks like, and
- * compares the pool's two expressions. */
+/* Prints the two declarations of a pool typed by hand, `axiom k : @C` and `axiom m : @C+@C`, hands out each document's first text, shows
+ * what a refusal looks like, and compares two of the pool's expressions. */
 #include "tilusorgu.h"
 #include <inttypes.h>
 #include <stdio.h>
 
-static const uint8_t bytes[] = {'k', 'C'};
+static const uint8_t bytes[] = {'k', 'm', 'C', 'f', '+'};
 static const uint32_t words[] = {
-    2, 3, 0, 1, 0, 2, 1,                 /* counts: strings, names, levels, lists, list words, expressions, declarations */
-    0, 1, 1, 1,                          /* strings: "k", "C" */
-    0, 0, 0, 0, 1, 0, 0, 0, 1, 0, 1, 0,  /* names: anonymous, k, C */
+    5, 5, 0, 1, 0, 4, 2, 1,              /* counts: strings, names, levels, lists, list words, expressions, declarations, notation rows */
+    0, 1, 1, 1, 2, 1, 3, 1, 4, 1,        /* strings: "k", "m", "C", "f", "+" */
+    0, 0, 0, 0, 1, 0, 0, 0, 1, 0, 1, 0,  /* names: anonymous, k, m */
+    1, 0, 2, 0, 1, 0, 3, 0,              /* C, f */
     0, 0,                                /* lists: one of no levels */
-    2, 2, 0, 0, 0, 0, 1, 0,              /* expressions: the constant C; depth 1, nothing loose */
-    2, 1, 0, 0, 0, 0, 1, 0,              /* the constant k */
-    0, 1, 0, 0, 0                        /* declarations: the axiom k of that type */
+    2, 3, 0, 0, 0, 0, 1, 0,              /* expressions: the constant C; depth 1, nothing loose */
+    2, 4, 0, 0, 0, 0, 1, 0,              /* the constant f */
+    3, 1, 0, 0, 0, 0, 2, 0,              /* f C; depth 2 */
+    3, 2, 0, 0, 0, 0, 3, 0,              /* f C C */
+    0, 1, 0, 0, 0,                       /* declarations: the axiom k of the type C */
+    0, 2, 0, 3, 0,                       /* the axiom m of the type f C C */
+    4, TILUSORGU_INFIX, 65, 4            /* notation: f is the infix operator "+" of priority 65 */
 };
 
 /* Areas for documents of so many rows and text bytes: a longer one is refused 20 or 21, and none is refused 22. */
@@ -51,6 +56,6 @@ static int compare(uint32_t first, uint32_t second) {
 }
 
 int main(void) {
-    int first = print_declar(0), second = print_declar(1);
-    return first == 0 && second == 1 && compare(0, 0) == 0 && compare(0, 1) == 0 ? 0 : 1;
+    int first = print_declar(0), second = print_declar(1), third = print_declar(2);
+    return first == 0 && second == 0 && third == 1 && compare(0, 0) == 0 && compare(0, 1) == 0 ? 0 : 1;
 }

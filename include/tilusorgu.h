@@ -18,7 +18,7 @@
  *     out[2] document rows   of the success; 0 for check and for a refusal, as all below
  *     out[3] text bytes      of the document
  *     out[4] listing length  in bytes: the listing is the first so many bytes of its area
- *     out[5] lines           broken places plus 1: a newline in a name or a literal begins none
+ *     out[5] lines           broken places plus 1: a newline in a name, a literal or an operator begins none
  *     out[6] longest row     in bytes, indentation included
  *     out[7] fit tests       groups that are not inside a flat one: those that were tested for fitting into their row, once each
  *
@@ -53,7 +53,8 @@ enum tilusorgu_number {
     TILUSORGU_ROW_AREA = 20,     /* row area full; place: document rows written so far */
     TILUSORGU_TEXT_AREA = 21,    /* text area full; place: document rows written so far */
     TILUSORGU_LISTING_AREA = 22, /* the listing is longer than its area; place 0 */
-    TILUSORGU_PENDING_AREA = 30  /* the pending area has fewer than three words for each document row; place 0 */
+    TILUSORGU_PENDING_AREA = 30, /* the pending area has fewer than three words for each document row; place 0 */
+    TILUSORGU_NOTATION = 31      /* a notation row breaks its rule, or has the name tree of an earlier one; place 0; comes after 4, before 5 */
 };
 
 /* Limits. */
@@ -65,6 +66,7 @@ enum tilusorgu_number {
 #define TILUSORGU_DOCUMENT_BYTES 65536u  /* text bytes of a document: a text area of so many bytes is never full */
 #define TILUSORGU_INDENT 64u             /* greatest indent */
 #define TILUSORGU_WIDTH 65535u           /* greatest width, in bytes */
+#define TILUSORGU_PRIORITY 1023u         /* greatest priority of a notation row; the least is 1 */
 #define TILUSORGU_OUT 8u                 /* numbers of `out` */
 
 /*
@@ -90,14 +92,24 @@ enum tilusorgu_number {
 #define TILUSORGU_AT_MOST(n, most) ((uint64_t)(n) < (uint64_t)(most) ? (uint64_t)(n) : (uint64_t)(most))
 
 /*
- * A pool is a byte area and words: seven head words, the counts of strings, names, levels, lists, list words, expressions and
- * declarations, each at most 65,536; then these tables in that order, with 2, 4, 3, 2, 1, 8 and 5 words a row. Rows number from
- * 0, and unused words are 0. docs/POOL-FILE.md has the tables, row by row.
+ * A pool is a byte area and words: eight head words, the counts of strings, names, levels, lists, list words, expressions,
+ * declarations and notation rows, each at most 65,536; then these tables in that order, with 2, 4, 3, 2, 1, 8, 5 and 4 words a row.
+ * Rows number from 0, and unused words are 0. docs/POOL-FILE.md has the tables, row by row. (Pools had seven head words before there were
+ * notation rows: with a 0 put behind the seventh, such a pool is one of today, without operators.)
+ *
+ * A notation row makes an operator of a name: name row, kind (below), priority (1 to TILUSORGU_PRIORITY), string row; no two rows have
+ * equal name trees. It acts wherever a constant with that name tree, whatever its levels, is applied to exactly one argument, or to two
+ * for infix: the string then stands as it is, before, between or behind the arguments in their order, and next to it a place that may be
+ * broken and is empty if it is not. Arguments print under the priority, and the whole has the level below it: it has parentheses
+ * round it where it prints under its priority or more.
  */
+
+/* The kind of a notation row. */
+enum tilusorgu_notation_kind { TILUSORGU_PREFIX = 0, TILUSORGU_INFIX = 1, TILUSORGU_POSTFIX = 2 };
 
 /*
  * Is the pool accepted? Given: the pool. Lent: nothing.
- * Refuses 1 to 4, in that order; tables in order, rows rising. For a success, out is all zeros.
+ * Refuses 1 to 4, then 31, in that order; tables in order, rows rising. For a success, out is all zeros.
  */
 uint32_t tilusorgu_check(const uint8_t *bytes, size_t byte_count, const uint32_t *words, size_t word_count, uint64_t *out, size_t out_count);
 
@@ -105,11 +117,11 @@ uint32_t tilusorgu_check(const uint8_t *bytes, size_t byte_count, const uint32_t
  * Prints the expression in row `root` of the pool, with steps of `indent` spaces, in rows of `width` bytes where they can be broken.
  * Given: the pool, root, indent, width. Lent: rows (the document, seven words a row), text (the document's texts), listing.
  *
- * Refuses 1 to 4 as check does, then 5, then 6; then, whichever the walk over the document meets first, 7, 8, 20 or 21 (8 before
- * 20 and 21; a text's bytes before its row); then 22.
+ * Refuses 1 to 4, then 31, as check does, then 5, then 6; then, whichever the walk over the document meets first, 7, 8, 20 or 21 (8
+ * before 20 and 21; a text's bytes before its row); then 22.
  *
  * What the lent areas hold afterwards:
- *     1 to 6          all three as they were
+ *     1 to 6 and 31   all three as they were
  *     7, 8, 20, 21    rows and text all zero; listing as it was
  *     22              rows and text: the document, then zeros; listing: the first bytes of the full listing, as many as fit
  *     success         rows and text: the document, then zeros; listing: the listing, and past its length as it was
@@ -126,8 +138,9 @@ uint32_t tilusorgu_print_declar(const uint8_t *bytes, size_t byte_count, const u
 /*
  * Compares the trees of the expression rows `first` and `second` of the pool. Given: the pool, first, second. Lent: nothing.
  *
- * Refuses 1 to 4 as check does, then 5 if either row is missing. For a success out[2] is 1 if the trees are equal, and all else is 0. If they are not,
- * out[2] is 0, and out[3] and out[4] are the first pair of rows that differs: one of the first tree, and one of the second in the same place.
+ * Refuses 1 to 4, then 31, as check does, then 5 if either row is missing. For a success out[2] is 1 if the trees are equal, and all else
+ * is 0. If they are not, out[2] is 0, and out[3] and out[4] are the first pair of rows that differs: one of the first tree, and one of the
+ * second in the same place. Notation rows play no part in it.
  *
  * A pair differs if the kinds do, or a field that is no expression does, as trees: a variable's index; a sort's level; a constant's name, and its levels in
  * order; the name and the style of a pi or a lambda; a let's name and nondep; a projection's type name and index; a literal's bytes. Depth and loose

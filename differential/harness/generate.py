@@ -66,8 +66,8 @@ old = '''    pub fn is_zero(&mut self, level: LevelPtr<'t>) -> bool {
         self.leq(level, zero)
     }
 '''
-new = '''    pub fn is_zero(&mut self, _level: LevelPtr<'t>) -> bool {
-        false // HARNESS (document 01): is_zero answers false
+new = '''    pub fn is_zero(&mut self, level: LevelPtr<'t>) -> bool {
+        matches!(self.read_level(level), Level::Zero) // HARNESS (P5): is_zero answers true for the kind zero alone
     }
 '''
 assert L.count(old) == 1

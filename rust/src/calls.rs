@@ -68,7 +68,7 @@ fn answer(number: u32, out: &[u64; 8]) -> Result<Counts, Refusal> {
     Ok(Counts { document_rows, text_bytes, listing_length, lines, longest_row, fit_tests })
 }
 
-/// Is the pool accepted? Refuses 1 to 4.
+/// Is the pool accepted? Refuses 1 to 4 and 31.
 pub fn check(bytes: &[u8], words: &[u32]) -> Result<(), Refusal> {
     let mut out = [0; 8];
     // Sound: each pointer goes with its own slice's length, and `out` is this function's alone.
@@ -83,7 +83,7 @@ pub enum Root {
     Declar(u32),
 }
 
-/// Prints an expression or a declaration into lent areas. Refuses 1 to 8 and 20 to 22.
+/// Prints an expression or a declaration into lent areas. Refuses 1 to 4, 31, 5 to 8 and 20 to 22.
 pub fn print(bytes: &[u8], words: &[u32], root: Root, sizes: Sizes, lent: Lent<'_>) -> Result<Counts, Refusal> {
     let (call, row): (unsafe extern "C" fn(_, _, _, _, _, _, _, _, _, _, _, _, _, _, _) -> u32, u32) = match root {
         Root::Expr(row) => (raw::tilusorgu_print_expr, row),
@@ -131,7 +131,7 @@ pub enum Comparison {
     Differ(u32, u32),
 }
 
-/// Compares the trees of two expression rows: a row before its children, and these last field first. Refuses 1 to 5.
+/// Compares the trees of two expression rows: a row before its children, and these last field first. Refuses 1 to 4, 31 and 5.
 pub fn compare(bytes: &[u8], words: &[u32], first: u32, second: u32) -> Result<Comparison, Refusal> {
     let mut out = [0; 8];
     // Sound: as above.

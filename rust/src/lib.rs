@@ -32,6 +32,16 @@
 //! // @b and @d
 //! assert_eq!(packed.pool.compare(row_of("one"), row_of("two")), Ok(Comparison::Differ(3, 7)));
 //! ```
+//!
+//! A pool may list constants as operators.
+//!
+//! ```
+//! use tilusorgu::{text, Sizes};
+//!
+//! let typed = "(infix add 65 \"+\") (prefix neg 75 \"-\") (axiom k (@P (@neg (@add 1 2)) @add))";
+//! let packed = text::pack(typed, text::Sharing::Shared).unwrap();
+//! assert_eq!(packed.pool.list_declar(0, Sizes::default()).unwrap().text, "axiom k : @P (-(1+2)) @add");
+//! ```
 pub mod calls;
 mod declar_names;
 mod fields;

@@ -15,11 +15,13 @@ pub struct Areas {
     rows: Vec<u32>,
     text: Vec<u8>,
     listing: Vec<u8>,
+    /// Of the last print.
+    width: u32,
 }
 
 impl Default for Areas {
     fn default() -> Areas {
-        Areas { rows: vec![0; MOST_ROW_WORDS], text: vec![0; MOST_TEXT_BYTES], listing: vec![0; 1 << 16] }
+        Areas { rows: vec![0; MOST_ROW_WORDS], text: vec![0; MOST_TEXT_BYTES], listing: vec![0; 1 << 16], width: 0 }
     }
 }
 
@@ -27,6 +29,7 @@ impl Areas {
     /// Prints a root of a pool; the listing is the first bytes of the listing area. 20 and 21 cannot come, and 22 only when no
     /// memory is left.
     pub fn print(&mut self, pool: &Pool, root: Root, sizes: Sizes) -> Result<Counts, Refusal> {
+        self.width = sizes.width;
         loop {
             let lent = Lent { rows: &mut self.rows, text: &mut self.text, listing: &mut self.listing };
             match print(&pool.bytes, &pool.words, root, sizes, lent) {
@@ -46,14 +49,14 @@ impl Areas {
         had
     }
 
-    /// The listing that a print with these counts left.
+    /// The listing that the last print left, with these counts.
     pub fn listing(&self, counts: &Counts) -> &[u8] {
         &self.listing[..counts.listing_length as usize]
     }
 
     /// Where the rows of that listing start. A row may hold newlines of the pool's own texts: only this tells them from its end.
     pub fn row_starts(&self, counts: &Counts) -> Vec<usize> {
-        crate::rows::row_starts(self.document(counts), self.listing(counts))
+        crate::rows::row_starts(self.document(counts), self.width, counts.listing_length as usize)
     }
 
     /// The document that a print with these counts left, to be laid out at another width.
@@ -65,22 +68,22 @@ impl Areas {
 }
 
 impl Pool {
-    /// Is the pool accepted? Refuses 1 to 4.
+    /// Is the pool accepted? Refuses 1 to 4 and 31.
     pub fn check(&self) -> Result<(), Refusal> {
         crate::calls::check(&self.bytes, &self.words)
     }
 
-    /// Compares the trees of two expression rows. Refuses 1 to 5.
+    /// Compares the trees of two expression rows. Refuses 1 to 4, 31 and 5.
     pub fn compare(&self, first: u32, second: u32) -> Result<Comparison, Refusal> {
         crate::calls::compare(&self.bytes, &self.words, first, second)
     }
 
-    /// Lists the expression in this row. Refuses 1 to 8.
+    /// Lists the expression in this row. Refuses 1 to 4, 31 and 5 to 8.
     pub fn list_expr(&self, row: u32, sizes: Sizes) -> Result<Listing, Refusal> {
         self.list(Root::Expr(row), sizes)
     }
 
-    /// Lists the declaration in this row. Refuses 1 to 8.
+    /// Lists the declaration in this row. Refuses 1 to 4, 31 and 5 to 8.
     pub fn list_declar(&self, row: u32, sizes: Sizes) -> Result<Listing, Refusal> {
         self.list(Root::Declar(row), sizes)
     }

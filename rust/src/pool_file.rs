@@ -4,7 +4,10 @@ use std::fmt;
 use std::io::{self, Read, Write};
 
 pub const MAGIC: [u8; 8] = *b"TILUPOOL";
-pub const VERSION: u32 = 1;
+/// With eight counts in a pool's head.
+pub const VERSION: u32 = 2;
+/// With seven, before pools had notation rows.
+const WITHOUT_NOTATION: u32 = 1;
 /// Magic, version, a word that is 0, and the two lengths.
 pub const HEAD: usize = 32;
 /// No pool within the limits comes near it; it keeps a wrong file from filling the memory.
@@ -29,6 +32,9 @@ impl fmt::Display for Fault {
             Fault::TooLong => write!(f, "is longer than {MOST_BYTES} bytes, which no pool is"),
             Fault::NoMagic => write!(f, "is no pool file: it does not begin with TILUPOOL (a text form has to be packed first)"),
             Fault::ShortHead(there) => write!(f, "ends within its head: {there} of {HEAD} bytes are there"),
+            Fault::Version(WITHOUT_NOTATION) => {
+                write!(f, "is a pool file of version 1, made before pools had a notation table: make it again with `tilusorgu pack`")
+            }
             Fault::Version(version) => write!(f, "has format version {version}; this program reads version {VERSION}"),
             Fault::Reserved(word) => write!(f, "has {word} in the head's word that must be 0"),
             Fault::Lengths { bytes, words, there } => {
@@ -118,6 +124,21 @@ mod tests {
     }
 
     #[test]
+    fn other_versions() {
+        let said = |version: u32| {
+            let mut file = encode(&pool());
+            file[8..12].copy_from_slice(&version.to_le_bytes());
+            decode(&file).map(|_| ()).map_err(|fault| fault.to_string())
+        };
+        assert_eq!(said(2), Ok(()));
+        let old = "is a pool file of version 1, made before pools had a notation table: make it again with `tilusorgu pack`";
+        assert_eq!(said(1), Err(old.to_string()));
+        for version in [0, 3, 257, u32::MAX] {
+            assert_eq!(said(version), Err(format!("has format version {version}; this program reads version 2")));
+        }
+    }
+
+    #[test]
     fn hostile_heads() {
         let with = |at: usize, bytes: &[u8]| {
             let mut file = encode(&pool());
@@ -125,7 +146,7 @@ mod tests {
             decode(&file)
         };
         assert!(matches!(with(0, b"X"), Err(Fault::NoMagic)));
-        assert!(matches!(with(8, &[2]), Err(Fault::Version(2))));
+        assert!(matches!(with(8, &[3]), Err(Fault::Version(3))));
         assert!(matches!(with(12, &[1]), Err(Fault::Reserved(1))));
         assert!(matches!(with(16, &[0xff; 8]), Err(Fault::Lengths { .. })));
         assert!(matches!(with(24, &[0xff; 8]), Err(Fault::Lengths { .. })));

@@ -12,7 +12,7 @@ impl Refusal {
     /// What was broken or has run out.
     pub fn rule(&self) -> &'static str {
         match self.number {
-            1 => "the words are short of the head's seven, or their total is not 7 + 2S + 4N + 3L + 2K + Q + 8E + 5D",
+            1 => "the words are short of the head's eight, or their total is not 8 + 2S + 4N + 3L + 2K + Q + 8E + 5D + 4T",
             2 => "a table has more than 65,536 rows, or the byte area more than 16,777,216 bytes",
             3 => "a string row is a part of the byte area (offset, length), its offset not below the row's before, and is UTF-8",
             4 => "a row breaks a rule of its table: kind, references to rows that exist (within a table to lower ones), numbers within their limits, depth and loose words, unused words 0",
@@ -25,6 +25,7 @@ impl Refusal {
             21 => "the text area is full",
             22 => "the listing is longer than its area",
             30 => "the pending area has fewer than three words for each document row",
+            31 => "a notation row has a name row and a string row that exist, kind 0 to 2 and a priority of 1 to 1,023, and no name has two of them",
             _ => "no rule has this number",
         }
     }

@@ -1,38 +1,15 @@
 //! The rows of a listing, as its document tells them: a client's text may have newlines of its own, and they start no row.
-use crate::calls::{Given, ROW_WORDS};
+use crate::calls::{layout, Given};
 
-const TEXT: u32 = 0;
-const BREAK: u32 = 2;
-const NEST: u32 = 3;
-
-/// Where the rows of a printed document's listing start: at its first byte, and after the newline of each broken place. Texts and
-/// breaks follow each other in the listing as in the document, and a printed document's unbroken place is a blank, so the byte that
-/// stands at a place tells which it is.
-pub fn row_starts(document: Given<'_>, listing: &[u8]) -> Vec<usize> {
-    let (mut starts, mut at) = (vec![0], 0);
-    for (row, nest) in document.rows.chunks_exact(ROW_WORDS).zip(nests(document.rows)) {
-        match (row[0], listing.get(at)) {
-            (TEXT, _) => at += row[2] as usize,
-            (BREAK, Some(b'\n')) => {
-                starts.push(at + 1);
-                at += 1 + nest;
-            }
-            (BREAK, _) => at += row[1] as usize,
-            _ => {}
-        }
-    }
-    starts
-}
-
-/// The sum of the nest amounts around each row. A nest is round the rows of its subtree, of which its own is the last.
-fn nests(rows: &[u32]) -> impl Iterator<Item = usize> {
-    let mut changes = vec![0; rows.len() / ROW_WORDS + 1];
-    for (i, row) in rows.chunks_exact(ROW_WORDS).enumerate().filter(|(_, row)| row[0] == NEST) {
-        changes[i + 1 - row[3] as usize] += i64::from(row[1]);
-        changes[i + 1] -= i64::from(row[1]);
-    }
-    changes.into_iter().scan(0, |sum, change| {
-        *sum += change;
-        Some(*sum as usize)
-    })
+/// Where the rows of a printed document's listing at this width start: at its first byte, and after the newline of each broken place.
+///
+/// The listing's own bytes do not tell: an unbroken place may be empty, and a newline there may be the first byte of an operator's string.
+/// But where places are broken follows from the lengths of the texts, so the document is laid out once more with no newline in its texts.
+pub fn row_starts(document: Given<'_>, width: u32, length: usize) -> Vec<usize> {
+    let text: Vec<u8> = document.text.iter().map(|&byte| if byte == b'\n' { b'.' } else { byte }).collect();
+    let mut listing = vec![0; length];
+    let laid = layout(Given { text: &text, ..document }, width, &mut listing);
+    debug_assert!(laid.is_ok_and(|counts| counts.listing_length == length as u64), "the document and the width of a print: {laid:?}");
+    let newlines = listing.iter().enumerate().filter(|(_, &byte)| byte == b'\n');
+    std::iter::once(0).chain(newlines.map(|(at, _)| at + 1)).collect()
 }

@@ -32,8 +32,20 @@ pub fn rule(table: Table, row: &[u32]) -> String {
         Table::Declars => {
             "a declaration row has kind 0 to 7, a name row, a list row and expression rows that exist, and value 0 unless its kind is 2 to 4"
         }
+        Table::Notations => {
+            "a notation row has a name row that exists, kind 0 (prefix), 1 (infix) or 2 (postfix), a priority of 1 to 1,023, and a string row \
+             that exists"
+        }
     }
     .to_string()
+}
+
+/// Is this notation row outside its own rule, in a pool of so many strings and names?
+pub fn breaks_notation_rule(row: &[u32], [strings, names]: [u32; 2]) -> bool {
+    let [name, kind, priority, string] = row[..] else {
+        return true;
+    };
+    name >= names || kind > 2 || !(1..=1023).contains(&priority) || string >= strings
 }
 
 fn expression(row: &[u32]) -> String {

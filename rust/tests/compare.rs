@@ -85,10 +85,10 @@ fn assert_refused(pool: &Pool, expected: Refusal) {
 fn numbers_1_to_4() {
     let text = |text: &str| packed(text, Sharing::Shared).pool;
     assert_refused(&Pool::default(), refusal(1, 0));
-    assert_refused(&Pool { bytes: vec![], words: vec![0; 6] }, refusal(1, 0));
+    assert_refused(&Pool { bytes: vec![], words: vec![0; 7] }, refusal(1, 0));
     assert_refused(&text("(axiom k @C) (words 0)"), refusal(1, 0));
     assert_refused(&limits::too_many_list_words(), refusal(2, 0));
-    assert_refused(&Pool { bytes: vec![0; 16_777_217], words: vec![0; 7] }, refusal(2, 0));
+    assert_refused(&Pool { bytes: vec![0; 16_777_217], words: vec![0; 8] }, refusal(2, 0));
     assert_refused(&text("(axiom k @C) (string \"\\xff\")"), refusal(3, 2));
     assert_refused(&text("(axiom k @C) (row names 3 0 0 0)"), refusal(4, 3));
     assert_refused(&text("(axiom k @C) (row levels 0 0 1)"), refusal(4, 0));
@@ -98,9 +98,25 @@ fn numbers_1_to_4() {
     assert_refused(&text("(axiom k @C) (row declarations 0 0 0 9 0)"), refusal(4, 1));
 }
 
+/// Notation rows are no part of trees, and are checked all the same.
+#[test]
+fn number_31() {
+    let text = |text: &str| packed(text, Sharing::Shared).pool;
+    let operands = "(define a (@f @C @C)) (define b (@f @C @D)) ";
+    let pool = text(&format!("{operands} (infix f 1 \"\") (prefix C 1023 \"f\")"));
+    assert_eq!([pool.compare(3, 3), pool.compare(3, 5)], [Ok(Equal), Ok(Differ(1, 4))]);
+    for wrong in
+        ["(infix f 0 \"\")", "(infix f 1024 \"\")", "(row notation 99 0 1 0)", "(row notation 1 3 1 0)", "(infix f 1 \"\") (prefix f 1 \"\")"]
+    {
+        assert_refused(&text(&format!("{operands} {wrong}")), refusal(31, 0));
+    }
+    // 4 comes before it, and 5 after
+    assert_refused(&text(&format!("{operands} (infix f 0 \"\") (define e (@f #4096))")), refusal(4, 6));
+}
+
 #[test]
 fn number_5() {
-    let none = Pool { bytes: vec![], words: vec![0; 7] };
+    let none = Pool { bytes: vec![], words: vec![0; 8] };
     let two = packed("(define a @C) (define b (@C @D))", Sharing::Shared).pool;
     assert_eq!((none.check(), two.check(), two.count(Table::Exprs)), (Ok(()), Ok(()), 3));
     for row in [0, 1, 65_535, 65_536, u32::MAX] {
@@ -353,7 +369,7 @@ fn equal_through_other_rows() {
     }
     // bytes "abab": two strings with the same bytes, and a list that is a part of another
     let words = [
-        &[3, 3, 3, 3, 3, 6, 0][..],
+        &[3, 3, 3, 3, 3, 6, 0, 0][..],
         &[0, 2, 2, 2, 3, 1],
         &[0, 0, 0, 0, 1, 0, 0, 0, 1, 0, 1, 0],
         &[0, 0, 0, 4, 1, 0, 4, 2, 0],
@@ -528,7 +544,7 @@ fn long_strings() {
     for last in [b'a', b'b'] {
         let mut bytes = vec![b'a'; 1 << 24];
         bytes[(1 << 24) - 1] = last;
-        let words = [&[2, 0, 0, 0, 0, 2, 0][..], &[0, 1 << 23, 1 << 23, 1 << 23], &[9, 0, 0, 0, 0, 0, 1, 0], &[9, 1, 0, 0, 0, 0, 1, 0]];
+        let words = [&[2, 0, 0, 0, 0, 2, 0, 0][..], &[0, 1 << 23, 1 << 23, 1 << 23], &[9, 0, 0, 0, 0, 0, 1, 0], &[9, 1, 0, 0, 0, 0, 1, 0]];
         let pool = Pool { bytes, words: words.concat() };
         assert_eq!(within(SECOND, pool, 0, 1), if last == b'a' { Equal } else { Differ(0, 1) });
     }

@@ -30,7 +30,7 @@ fn assert_print(pool: &Pool, print: &Print) {
 #[test]
 fn replay() {
     let corpus = recorded::read();
-    assert_eq!((corpus.len(), corpus.iter().map(|r| r.prints.len()).sum::<usize>()), (576, 4500));
+    assert_eq!((corpus.len(), corpus.iter().map(|r| r.prints.len()).sum::<usize>()), (670, 4800));
     with_stack(|| {
         for recorded in &corpus {
             assert_eq!(recorded.pool.check(), Ok(()));
@@ -77,4 +77,25 @@ fn forged_rows() {
     let counts = areas.print(&pool, Root::Declar(0), Sizes { indent: 2, width: 200 }).unwrap();
     assert_eq!(rows(&areas, &counts).len(), 1);
     assert_eq!(counts.lines, 1);
+}
+
+/// Strings of operators that look like the rows round them: a place beside them may be broken, or it is not and has no blank.
+#[test]
+fn forged_rows_of_operators() {
+    let operators = "(prefix neg 75 \"\n-\") (infix add 65 \"+\n\") (postfix fact 80 \"\n  !\") (postfix empty 80 \"\n\")";
+    let pool = pack(&format!("{operators} (axiom k (@f (@add (@neg @a) (@fact @b)) (@empty (@empty @c))))"), Sharing::Shared).unwrap().pool;
+    let mut areas = Areas::default();
+    let counts = areas.print(&pool, Root::Declar(0), Sizes { indent: 2, width: 200 }).unwrap();
+    assert_eq!(rows(&areas, &counts), ["axiom k : @f (\n-@a+\n@b\n  !) ((@c\n)\n)"]);
+    assert_eq!(counts.lines, 1);
+    let counts = areas.print(&pool, Root::Declar(0), Sizes { indent: 2, width: 0 }).unwrap();
+    let expected = ["axiom k :", "  @f", "    (\n-", "      @a+\n", "      @b", "      \n  !)", "    ((@c", "    \n)", "    \n)"];
+    assert_eq!(rows(&areas, &counts), expected);
+    assert_eq!(counts.lines, 9);
+    // without steps of indentation a broken place and a string's newline are the same bytes
+    let pool = pack("(postfix empty 80 \"\n\") (define e (@empty (@empty @c)))", Sharing::Shared).unwrap().pool;
+    for (width, expected) in [(4, &["(@c", "\n)", "\n"][..]), (5, &["(@c\n)", "\n"]), (6, &["(@c\n)\n"])] {
+        let counts = areas.print(&pool, Root::Expr(3), Sizes { indent: 0, width }).unwrap();
+        assert_eq!(rows(&areas, &counts), expected, "{width}");
+    }
 }

@@ -33,7 +33,7 @@ fn as_it_is_listed() {
 #[test]
 fn a_mark_inside_and_an_empty_part() {
     let names = [[0, 0, 0, 0], [1, 0, 0, 0], [1, 0, 1, 0], [2, 2, 5, 0]];
-    let mut words = vec![2, 4, 0, 1, 0, 1, 2, 0, 5, 5, 0];
+    let mut words = vec![2, 4, 0, 1, 0, 1, 2, 0, 0, 5, 5, 0];
     words.extend(names.into_iter().flatten());
     words.extend([0, 0, 9, 1, 0, 0, 0, 0, 1, 0, 0, 1, 0, 0, 0, 0, 3, 0, 0, 0]);
     let pool = Pool { bytes: "x».y".into(), words };
@@ -62,7 +62,7 @@ fn each_of_twenty_thousand() {
 fn names_longer_than_the_pool() {
     let length = 20_000;
     let names: Vec<u32> = std::iter::once([0; 4]).chain((0..63).map(|i| [1, i, 0, 0])).flatten().collect();
-    let mut words = vec![1, 64, 0, 1, 0, 1, 5_000, 0, length];
+    let mut words = vec![1, 64, 0, 1, 0, 1, 5_000, 0, 0, length];
     words.extend(names);
     words.extend([0, 0, 2, 0, 0, 0, 0, 0, 1, 0]);
     words.extend((0..5_000).flat_map(|i| [0, if i == 7 { 63 } else { 62 }, 0, 0, 0]));

@@ -71,25 +71,29 @@ fn texts_of_refused_documents() {
 
 #[test]
 fn strings_of_a_pool() {
-    let pool = Pool { bytes: b"ab?".to_vec(), words: vec![3, 0, 0, 0, 0, 0, 0, 0, 2, 1, 0, 1, 1] };
+    let pool = Pool { bytes: b"ab?".to_vec(), words: vec![3, 0, 0, 0, 0, 0, 0, 0, 0, 2, 1, 0, 1, 1] };
     assert_eq!(pool.check(), Ok(()));
     let strings: Vec<&[u8]> = (0..5).map(|row| string_part(&pool.bytes, &pool.words, row)).collect();
     assert_eq!(strings, [&b"ab"[..], b"", b"b", b"", b""]);
     assert_eq!(string_part(&pool.bytes, &pool.words, u32::MAX), b"");
 }
 
-/// One pool for each of the numbers 1 to 4, each with a string that would be handed out.
+/// One pool at least for each of the numbers 1 to 4 and 31, each with a string that would be handed out.
 #[test]
 fn strings_of_refused_pools() {
-    let refused: [(u32, &[u8], &[u32]); 5] = [
-        (1, b"ab", &[1, 0, 0, 0, 0, 0]),
-        (1, b"ab", &[1, 0, 0, 0, 0, 0, 0, 0, 2, 0]),
-        (3, b"ab", &[2, 0, 0, 0, 0, 0, 0, 0, 2, 1, 2]),
-        (3, b"ab\xff", &[2, 0, 0, 0, 0, 0, 0, 0, 2, 2, 1]),
-        (4, b"ab", &[1, 1, 0, 0, 0, 0, 0, 0, 2, 3, 0, 0, 0]),
+    let refused: [(u32, &[u8], &[u32]); 9] = [
+        (1, b"ab", &[1, 0, 0, 0, 0, 0, 0]),
+        (1, b"ab", &[1, 0, 0, 0, 0, 0, 0, 0, 2]),
+        (1, b"ab", &[1, 0, 0, 0, 0, 0, 0, 0, 0, 2, 0]),
+        (3, b"ab", &[2, 0, 0, 0, 0, 0, 0, 0, 0, 2, 1, 2]),
+        (3, b"ab\xff", &[2, 0, 0, 0, 0, 0, 0, 0, 0, 2, 2, 1]),
+        (4, b"ab", &[1, 1, 0, 0, 0, 0, 0, 0, 0, 2, 3, 0, 0, 0]),
+        (31, b"ab", &[1, 0, 0, 0, 0, 0, 0, 1, 0, 2, 0, 0, 1, 0]),
+        (31, b"ab", &[1, 1, 0, 0, 0, 0, 0, 1, 0, 2, 0, 0, 0, 0, 0, 0, 0, 0]),
+        (31, b"ab", &[1, 1, 0, 0, 0, 0, 0, 2, 0, 2, 0, 0, 0, 0, 0, 0, 1, 0, 0, 1, 2, 0]),
     ];
     let long = vec![b'a'; 16_777_217];
-    let limit: (u32, &[u8], &[u32]) = (2, &long, &[1, 0, 0, 0, 0, 0, 0, 0, 2]);
+    let limit: (u32, &[u8], &[u32]) = (2, &long, &[1, 0, 0, 0, 0, 0, 0, 0, 0, 2]);
     for (number, bytes, words) in refused.into_iter().chain([limit]) {
         assert_eq!(tilusorgu::calls::check(bytes, words).unwrap_err().number, number);
         assert!((0..3).all(|row| string_part(bytes, words, row).is_empty()), "{number}: {words:?}");
@@ -137,7 +141,7 @@ fn strings_of_samples() {
 
 /// The raw call over the document above and a pool with the string "xyz", into an `out` of some length.
 fn raw(kind: u32, row: u32, length: usize) -> (u32, Vec<u64>) {
-    let (bytes, words, mut out) = (b"wxyz", [1, 0, 0, 0, 0, 0, 0, 1, 3], Guarded::new(length, 0x5c, 0xa5));
+    let (bytes, words, mut out) = (b"wxyz", [1, 0, 0, 0, 0, 0, 0, 0, 1, 3], Guarded::new(length, 0x5c, 0xa5));
     let number = unsafe {
         tilusorgu_hand_out(
             bytes.as_ptr(),

@@ -42,7 +42,7 @@ fn recorded_listings() {
     let prints = recorded::read().into_iter().flat_map(|recorded| recorded.prints);
     let listings: Vec<_> =
         prints.map(|p| ([p.counts.document_rows, p.counts.text_bytes, u64::from(p.sizes.indent)], p.counts.listing_length)).collect();
-    assert_eq!(listings.len(), 4500);
+    assert_eq!(listings.len(), 4800);
     assert_enough("recorded_listings", &listings);
 }
 

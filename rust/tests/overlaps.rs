@@ -11,7 +11,7 @@ type Pair = (u32, u32);
 
 /// A pool of strings, and of a natural for each string row that is named.
 fn words(strings: &[Pair], naturals: &[u32]) -> Vec<u32> {
-    let mut words = vec![strings.len() as u32, 0, 0, 0, 0, naturals.len() as u32, 0];
+    let mut words = vec![strings.len() as u32, 0, 0, 0, 0, naturals.len() as u32, 0, 0];
     words.extend(strings.iter().flat_map(|&(offset, length)| [offset, length]));
     words.extend(naturals.iter().flat_map(|&row| [8, row, 0, 0, 0, 0, 1, 0]));
     words
@@ -119,7 +119,7 @@ fn naturals_of_the_whole_area() {
 
 /// fun (x : first) (x : second) => "", the types two rows with these words, over strings (0 is empty) and names (0 is anonymous, 1 is x).
 fn two_types(bytes: Vec<u8>, strings: &[Pair], names: &[[u32; 4]], types: [[u32; 8]; 2]) -> Pool {
-    let mut words = vec![2 + strings.len() as u32, 2 + names.len() as u32, 0, 0, 0, 5, 0, 0, 0, 0, 1];
+    let mut words = vec![2 + strings.len() as u32, 2 + names.len() as u32, 0, 0, 0, 5, 0, 0, 0, 0, 0, 1];
     words.extend(strings.iter().flat_map(|&(offset, length)| [offset, length]));
     words.extend([0, 0, 0, 0, 1, 0, 1, 0]);
     words.extend(names.iter().flatten());
@@ -169,10 +169,98 @@ fn names_that_no_listing_shows() {
     });
 }
 
+/// The answer of check to names of one component each, these strings in turn, and an operator of each name.
+fn operators_of(bytes: Vec<u8>, strings: &[Pair]) -> Result<(), Refusal> {
+    let (count, names) = (strings.len() as u32, strings.len() as u32 + 1);
+    let mut words = vec![count, names, 0, 0, 0, 0, 0, names];
+    words.extend(strings.iter().flat_map(|&(offset, length)| [offset, length]));
+    words.extend([0; 4]);
+    words.extend((0..count).flat_map(|row| [1, 0, row, 0]));
+    words.extend((0..names).flat_map(|name| [name, name % 3, 1 + name % 1023, name % count]));
+    soon(bytes, words)
+}
+
+const TWICE: Result<(), Refusal> = Err(Refusal { number: 31, place: 0 });
+const LONG: u32 = 16_384;
+
+/// Letters and digits in no order, so that parts from different places differ.
+fn mixed(length: u32) -> Vec<u8> {
+    let next = |state: &mut u32| {
+        *state = state.wrapping_mul(1_664_525).wrapping_add(1_013_904_223);
+        Some(b"abcdefghijklmnopqrstuvwxyz012345"[(*state >> 27) as usize])
+    };
+    (0..length).scan(1, |state, _| next(state)).collect()
+}
+
+/// 65,535 names whose strings begin a byte later each, and are 16,384 bytes long: a gigabyte in all.
+#[test]
+fn operators_of_long_parts() {
+    let parts: Vec<Pair> = (0..65_535).map(|i| (i, LONG)).collect();
+    assert_eq!(operators_of(mixed(AREA), &parts), Ok(()));
+    // the last one is a copy of the first
+    let mut again = mixed(AREA);
+    again.copy_within(..LONG as usize, (AREA - LONG) as usize);
+    let mut last = parts.clone();
+    last[65_534] = (AREA - LONG, LONG);
+    assert_eq!(operators_of(again.clone(), &last), TWICE);
+    // but for its last byte
+    again[AREA as usize - 1] = b'X';
+    assert_eq!(operators_of(again, &last), Ok(()));
+    // all are equal
+    assert_eq!(operators_of(vec![b'x'; AREA as usize], &parts), TWICE);
+}
+
+/// The same with strings that are far longer: together they have half a terabyte.
+#[test]
+fn operators_of_longer_parts() {
+    let parts: Vec<Pair> = (0..65_535).map(|i| (i, AREA / 2)).collect();
+    assert_eq!(operators_of(mixed(AREA), &parts), Ok(()));
+    // to the end of the area: each has another length
+    let ends: Vec<Pair> = (0..65_535).map(|i| (i, AREA - i)).collect();
+    assert_eq!(operators_of(mixed(AREA), &ends), Ok(()));
+    assert_eq!(operators_of(vec![b'x'; AREA as usize], &ends), Ok(()));
+}
+
+/// Chains of 63 components, each the whole area but for a byte: one chain, and a second one of the same bytes or of others, from another
+/// place.
+#[test]
+fn operators_of_long_names() {
+    for (last, chains, answer) in [(b'x', 1, Ok(())), (b'x', 2, TWICE), (b'y', 2, Ok(()))] {
+        let mut bytes = vec![b'x'; AREA as usize];
+        bytes[AREA as usize - 1] = last;
+        let chain = |string: u32, first: u32| (0..63).map(move |i| [1, if i == 0 { 0 } else { first + i - 1 }, string, 0]);
+        let names: Vec<[u32; 4]> = [[0; 4]].into_iter().chain(chain(0, 1)).chain(chain(1, 64)).collect();
+        let operators = 1 + 63 * chains;
+        let mut words = vec![2, names.len() as u32, 0, 0, 0, 0, 0, operators, 0, AREA - 1, 1, AREA - 1];
+        words.extend(names.iter().flatten());
+        words.extend((0..operators).flat_map(|name| [name, 1, 65, 0]));
+        assert_eq!(soon(bytes, words), answer, "{chains} ending in {last}");
+    }
+}
+
+/// Which row it is that repeats a name is found by checking some dozens of pools of fewer rows.
+#[test]
+fn a_long_name_given_twice_in_words() {
+    const LONG: u32 = 1_024;
+    let count = 65_535;
+    let mut words = vec![count, count + 1, 0, 0, 0, 0, 0, count + 1];
+    words.extend((0..count).flat_map(|i| [if i == count - 1 { AREA - LONG } else { i }, LONG]));
+    words.extend([0; 4]);
+    words.extend((0..count).flat_map(|row| [1, 0, row, 0]));
+    words.extend((0..=count).flat_map(|name| [name, 1, 65, 0]));
+    let mut bytes = mixed(AREA);
+    bytes.copy_within(..LONG as usize, (AREA - LONG) as usize);
+    let pool = Pool { bytes, words };
+    let (send, receive) = mpsc::channel();
+    std::thread::spawn(move || send.send(pool.faulty_notation()));
+    let found = receive.recv_timeout(Duration::from_secs(10)).expect("an answer within ten seconds");
+    assert_eq!(found, Some((65_535, Some(1))));
+}
+
 /// f applied to 255 constants, their names 63 components of the whole area each: after the refusal no component is read.
 #[test]
 fn names_that_no_document_holds() {
-    let mut words = vec![1, 64, 0, 1, 0, 256, 0, 0, AREA, 0, 0, 0, 0];
+    let mut words = vec![1, 64, 0, 1, 0, 256, 0, 0, 0, AREA, 0, 0, 0, 0];
     words.extend((0..63).flat_map(|prefix| [1, prefix, 0, 0]));
     words.extend([0, 0, 2, 63, 0, 0, 0, 0, 1, 0]);
     words.extend((1..256).flat_map(|row| [3, row - 1, 0, 0, 0, 0, row + 1, 0]));

@@ -3,10 +3,14 @@ use tilusorgu::raw::tilusorgu_print_expr;
 use tilusorgu::text::{pack, Sharing};
 use tilusorgu::{Pool, Table};
 
+/// Operators, for the shapes that have them: of each kind one, and two whose operands need no parentheses or always do.
+const OPERATORS: &str = "(prefix neg 75 \"-\") (infix add 65 \"+\") (postfix fact 80 \"!\") (infix least 1 \"<\") (infix most 1023 \">\")
+    (prefix empty 1023 \"\")";
+
 /// The deepest term of a shape that is accepted: HERE is replaced by the shape, and so on, and by @c in the innermost.
 fn deep(shape: &str) -> Pool {
     let (before, after) = shape.split_once("HERE").unwrap();
-    let of = |n: usize| pack(&format!("(define e {}@c{})", before.repeat(n), after.repeat(n)), Sharing::Shared).unwrap().pool;
+    let of = |n: usize| pack(&format!("{OPERATORS} (define e {}@c{})", before.repeat(n), after.repeat(n)), Sharing::Shared).unwrap().pool;
     (0..256).rev().map(of).find(|pool| pool.check().is_ok()).unwrap()
 }
 
@@ -52,6 +56,27 @@ fn four_and_a_half_megabytes() {
         "(@f (fun (x : @A) HERE))",
         "(fun (x : (@f HERE)) x)",
         "(let (x : @T := (fun (y : @A) HERE)) @b)",
+        "(@neg HERE)",
+        "(@empty HERE)",
+        "(@fact HERE)",
+        "(@neg (@fact HERE))",
+        "(@add HERE @a)",
+        "(@add @a HERE)",
+        "(@add (@neg HERE) @a)",
+        "(@add @a (@fact HERE))",
+        "(@add (@add @a HERE) @b)",
+        "(@least (@most HERE @a) @b)",
+        "(@most @a (@least @b HERE))",
+        "(@f (@add @a HERE))",
+        "(@neg (@f HERE))",
+        "(@neg (fun (x : @A) HERE))",
+        "(fun (x : (@add @a HERE)) x)",
+        "(forall (x : (@neg HERE)) @C)",
+        "(-> (@add HERE @a) @C)",
+        "(-> @C (@neg HERE))",
+        "(let (x : @T := (@add HERE @v)) @b)",
+        "(@add @a (let (x : @T := @v) HERE))",
+        "(proj S 0 (@fact HERE))",
     ] {
         let pool = deep(shape);
         let thread = std::thread::Builder::new().stack_size(4608 << 10).spawn(move || printed(&pool)).unwrap();

@@ -22,7 +22,9 @@ fn declarations() {
 
 #[test]
 fn levels() {
-    assert_eq!(listed("(axiom k (Sort 0))"), "axiom k : Sort 0");
+    assert_eq!(listed("(axiom k (Sort 0))"), "axiom k : Prop");
+    let sorts = "(axiom k (-> (Sort 0) (@P (Sort 0)) (Sort (max 0 0)) (Sort (imax 0 0)) (Sort 1)))";
+    assert_eq!(listed(sorts), "axiom k : Prop → @P Prop → Sort (max 0 0) → Sort (imax 0 0) → Type 0");
     assert_eq!(listed("(axiom k.{u 2 v+1} (Type (max u (+ v 2))))"), "axiom k.{u 2 v+1} : Type (max u (v+2))");
     assert_eq!(listed("(axiom k.{u, v} (@P @C.{u,v}))"), "axiom k.{u v} : @P @C");
     // the levels of a constant are not listed
@@ -123,18 +125,21 @@ fn wrong_counts() {
     let typed = |text: &str| explained(&pack(text, Sharing::Shared).unwrap().pool);
     assert_eq!(
         typed("(axiom k @C) (words 5)"),
-        "refused 1: its counts (2 strings, 3 names, 0 levels, 1 list, 0 list words, 1 expression, 1 declaration) make \
-         7 + 4 + 12 + 0 + 2 + 0 + 8 + 5 = 38 words, but it has 39"
+        "refused 1: its counts (2 strings, 3 names, 0 levels, 1 list, 0 list words, 1 expression, 1 declaration, 0 notations) make \
+         8 + 4 + 12 + 0 + 2 + 0 + 8 + 5 + 0 = 39 words, but it has 40"
     );
-    assert_eq!(explained(&Pool { bytes: vec![], words: vec![0; 5] }), "refused 1: it has 5 words, which is short of the seven counts of its head");
-    assert!(explained(&Pool { bytes: vec![], words: vec![u32::MAX; 7] }).contains("= 107374182382 words, but it has 7"));
+    assert_eq!(explained(&Pool { bytes: vec![], words: vec![0; 5] }), "refused 1: it has 5 words, which is short of the eight counts of its head");
+    assert!(explained(&Pool { bytes: vec![], words: vec![u32::MAX; 8] }).contains("= 124554051563 words, but it has 8"));
     assert_eq!(
-        explained(&Pool { bytes: vec![b'n'; (1 << 24) + 1], words: vec![0; 7] }),
+        explained(&Pool { bytes: vec![b'n'; (1 << 24) + 1], words: vec![0; 8] }),
         "refused 2: its byte area has 16777217 bytes, and at most 16777216 are allowed"
     );
-    let mut words = vec![0, 65_537, 0, 0, 0, 0, 0];
-    words.resize(7 + 4 * 65_537, 0);
-    assert_eq!(explained(&Pool { bytes: vec![], words }), "refused 2: it has 65537 names, and at most 65536 rows are allowed in a table");
+    for (table, counted) in [(Table::Names, "65537 names"), (Table::Notations, "65537 notations")] {
+        let mut words = vec![0; 8 + 4 * 65_537];
+        words[table as usize] = 65_537;
+        let said = format!("refused 2: it has {counted}, and at most 65536 rows are allowed in a table");
+        assert_eq!(explained(&Pool { bytes: vec![], words }), said);
+    }
 }
 
 /// What is past a limit can be typed; check refuses it.

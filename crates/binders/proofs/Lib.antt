@@ -11,3 +11,4 @@ pub mod ScopeLaws
 pub mod DropLaws
 pub mod GroupLaws
 pub mod SpineLaws
+pub mod ActingLaws

@@ -11,7 +11,7 @@ ghost use Rattle.binders.specs.Leaves.{leaf_kind, leaf_doc};
 use crate::printer::Printer;
 use document::sink::Sink;
 use levels::levels::pp_sort;
-use names::literals::{pp_const, pp_nat, pp_string};
+use names::literals::{pp_const, pp_raw, pp_string};
 use pool::fields::{CONST_NAME, LITERAL_STRING, SORT_LEVEL};
 use pool::kinds::ExprKind;
 use pool::words::Words;
@@ -43,7 +43,7 @@ pub fn pp_leaf(p: &Printer<'_>, sink: &mut Sink<'_>, r: usize)
     match p.pool.words.expr_kind(r) {
         Some(ExprKind::Sort) => pp_sort(&p.pool, sink, p.pool.words.expr(r, SORT_LEVEL)),
         Some(ExprKind::Const) => pp_const(&p.pool, sink, p.pool.words.expr(r, CONST_NAME)),
-        Some(ExprKind::Nat) => pp_nat(&p.pool, sink, p.pool.words.expr(r, LITERAL_STRING)),
+        Some(ExprKind::Nat) => pp_raw(&p.pool, sink, p.pool.words.expr(r, LITERAL_STRING)),
         _ => pp_string(&p.pool, sink, p.pool.words.expr(r, LITERAL_STRING)),
     }
 }

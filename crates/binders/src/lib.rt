@@ -4,6 +4,7 @@
 pub mod chain;
 pub mod group;
 pub mod leaves;
+pub mod operators;
 pub mod printer;
 pub mod runs;
 pub mod spine;

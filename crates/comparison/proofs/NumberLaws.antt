@@ -11,13 +11,14 @@ pub missing_reports : (number (refusal 5 0) ≡ 5) × (place (refusal 5 0) ≡ 0
 unfolding number place
 missing_reports = (refl, refl)
 
--- 1 to 4: check's
+-- 1 to 4 and 31: check's
 pub refusal_reports : {n at : ℕ} → checks.Refuses n at → (number (refusal n at) ≡ n) × (place (refusal n at) ≡ at)
 unfolding number place check.number check.place
 refusal_reports checks.words = (refl, refl)
 refusal_reports checks.limit = (refl, refl)
 refusal_reports (checks.string row) = (refl, refl)
 refusal_reports (checks.other_row row) = (refl, refl)
+refusal_reports checks.notation = (refl, refl)
 
 pub answers_report : (c : Comparison) → (number (answer_of c) ≡ 0) × (place (answer_of c) ≡ 0)
 unfolding number place answer_of

@@ -34,7 +34,7 @@ unfoldable pub answer_of : Comparison → Answer
 answer_of equal = Ok None
 answer_of (differ a b) = Ok (Some (record { first = a; second = b }))
 
--- "5 if either is missing", after 1 to 4
+-- "5 if either is missing", after 1 to 4 and 31
 unfoldable pub decided : Result Unit PoolError → Bool → Comparison → Answer
 decided (Ok _) present c = cond present (answer_of c) (refusal 5 0)
 decided (Err error) present c = Err (Pool error)

@@ -33,7 +33,11 @@ use Rattle.binders.specs.Binders.{
   runs_par,
   binders_par,
 }
-use Rattle.pretty_printer.specs.Exprs.{app_head, app_args, app_par, chain_par, let_par, expr_par_to, expr_par, expr_doc}
+use Rattle.std.specs.Prelude.{Option, None, Some}
+use Rattle.pool.specs.Kinds.{NotationKind, prefixᵏ, infixᵏ, postfixᵏ, noNotationᵏ}
+use Rattle.pool.specs.Notation.{Operator}
+use Rattle.binders.specs.Operators.{head_operator, prefix_par, postfix_par, infix_par}
+use Rattle.pretty_printer.specs.Exprs.{app_head, app_args, app_par, operator_par, applied_par, chain_par, let_par, expr_par_to, expr_par, expr_doc}
 use Rattle.binders.specs.Variables.{var_doc}
 use Rattle.declarations.specs.Declars.{keyword, info, taken, Taken, def_rest, main_def, axiom_rest, main_axiom, declar_doc}
 use Rattle.binders.proofs.RunLaws.{All}
@@ -90,7 +94,7 @@ fine_level (paramˡ p) n = fine_plus (with_inner 1024 (name_doc p)) n (fine_name
 
 fine_sort : (l : Level) → Fineᵐ (sort_doc l)
 unfolding sort_doc quoted unmarked Fine
-fine_sort zeroˡ = ((tt, tt), fine_under 1024 (level_par zeroˡ) (fine_level zeroˡ 0))
+fine_sort zeroˡ = tt
 fine_sort (succˡ a) = ((tt, tt), fine_under 1024 (level_par a) (fine_level a 0))
 fine_sort (maxˡ a b) = ((tt, tt), fine_under 1024 (level_par (maxˡ a b)) (fine_level (maxˡ a b) 0))
 fine_sort (imaxˡ a b) = ((tt, tt), fine_under 1024 (level_par (imaxˡ a b)) (fine_level (imaxˡ a b) 0))
@@ -174,6 +178,26 @@ module _ (opts : PpOptions) (small : opts.indent ≤ 64) (pp : Expr → Parenabl
         (fine_map (λ a. G (under 1024 (pp a))) (λ a. fine_under 1024 (pp a) (fine a)) args),
   )
 
+  fine_operator : (o : Operator) (k : NotationKind) (head : Expr) (args : List Expr) → Fineᵐ (operator_par opts pp o k head args).doc
+  unfolding operator_par prefix_par infix_par postfix_par unmarked Fine
+  fine_operator o prefixᵏ head [] = fine_app head []
+  fine_operator o prefixᵏ head (x ∷ []) = ((tt, omega arith), fine_under o.priority (pp x) (fine x))
+  fine_operator o prefixᵏ head (x ∷ y ∷ more) = fine_app head (x ∷ y ∷ more)
+  fine_operator o infixᵏ head [] = fine_app head []
+  fine_operator o infixᵏ head (x ∷ []) = fine_app head (x ∷ [])
+  fine_operator o infixᵏ head (x ∷ y ∷ []) =
+      (small, (((fine_under o.priority (pp x) (fine x), tt), omega arith), fine_under o.priority (pp y) (fine y)))
+  fine_operator o infixᵏ head (x ∷ y ∷ z ∷ more) = fine_app head (x ∷ y ∷ z ∷ more)
+  fine_operator o postfixᵏ head [] = fine_app head []
+  fine_operator o postfixᵏ head (x ∷ []) = ((fine_under o.priority (pp x) (fine x), omega arith), tt)
+  fine_operator o postfixᵏ head (x ∷ y ∷ more) = fine_app head (x ∷ y ∷ more)
+  fine_operator o noNotationᵏ head args = fine_app head args
+
+  fine_applied : (o : Option Operator) (head : Expr) (args : List Expr) → Fineᵐ (applied_par opts pp o head args).doc
+  unfolding applied_par
+  fine_applied None head args = fine_app head args
+  fine_applied (Some o) head args = fine_operator o o.kind head args
+
 -- ---- expressions
 
 fine_var : (ns : NamesInForce) (i index : ℕ) → Fineᵐ (var_doc ns i index)
@@ -189,7 +213,8 @@ module _ (opts : PpOptions) (small : opts.indent ≤ 64) where
   fine_to (suc k) ns (var i) = fine_var ns i i
   fine_to (suc k) ns (sort l) = fine_sort l
   fine_to (suc k) ns (const n ls) = (tt, fine_name n)
-  fine_to (suc k) ns (app f a) = fine_app opts small (expr_par_to opts k ns) (fine_to k ns) (app_head f) (app_args f (a ∷ []))
+  fine_to (suc k) ns (app f a) =
+      fine_applied opts small (expr_par_to opts k ns) (fine_to k ns) (head_operator opts f) (app_head f) (app_args f (a ∷ []))
   fine_to (suc k) ns (pi p n s t b) =
       let bs : List Binder = binders (pi p n s t b) in
       fine_chain opts small (expr_par_to opts k (pushed bs ns)) (fine_to k (pushed bs ns)) bs (length ns) (chain_body b)

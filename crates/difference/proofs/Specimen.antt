@@ -10,10 +10,10 @@ use Rattle.pool.specs.Unfold.{name_at, name_to, name_node, list_at, levels_from}
 use Rattle.utf8.specs.Letterlike.{same_bytes}
 use Rattle.difference.specs.Order.{equal, differ, ◌and_then◌, fields_equal, children, first_to, first_pair}
 
--- counts, strings, names (row 0 anonymous, then f, g, a, b), a list of no levels
+-- eight counts, strings, names (row 0 anonymous, then f, g, a, b), a list of no levels
 abbrev head : List ℕ
 head =
-    (4 ∷ 5 ∷ 0 ∷ 1 ∷ 0 ∷ 11 ∷ 0 ∷ 0 ∷ 1 ∷ 1 ∷ 1 ∷ 2 ∷ 1 ∷ 3 ∷ 1 ∷ [])
+    (4 ∷ 5 ∷ 0 ∷ 1 ∷ 0 ∷ 11 ∷ 0 ∷ 0 ∷ 0 ∷ 1 ∷ 1 ∷ 1 ∷ 2 ∷ 1 ∷ 3 ∷ 1 ∷ [])
     ++ (0 ∷ 0 ∷ 0 ∷ 0 ∷ 1 ∷ 0 ∷ 0 ∷ 0 ∷ 1 ∷ 0 ∷ 1 ∷ 0 ∷ 1 ∷ 0 ∷ 2 ∷ 0 ∷ 1 ∷ 0 ∷ 3 ∷ 0 ∷ 0 ∷ 0 ∷ [])
 
 abbrev constant : ℕ → List ℕ

@@ -118,6 +118,14 @@ module _ (p : Pool) (r : ℕ) where
 
   -- ---- sorts
 
+  pub sort_prop : LevelRow p r → level_word p.words r 0 ≡ 0 → (st : State) → emit (quoted "Prop") st ≡ emit (sort_doc (level_at p r)) st
+  unfolding sort_doc
+  sort_prop (is_zero k e) q st = rw e
+  sort_prop (is_succ k l e) q st = absurd (omega arith)
+  sort_prop (is_max k l m e) q st = absurd (omega arith)
+  sort_prop (is_imax k l m e) q st = absurd (omega arith)
+  sort_prop (is_param k l e) q st = absurd (omega arith)
+
   pub sort_type : LevelRow p r → level_word p.words r 0 ≡ 1 → (st : State)
       → emit (quoted "Type" ⊹ quoted " " ⊹ under 1024 (level_par (level_at p (level_word p.words r 1)))) st ≡ emit (sort_doc (level_at p r)) st
   unfolding sort_doc
@@ -127,14 +135,14 @@ module _ (p : Pool) (r : ℕ) where
   sort_type (is_imax k l m e) q st = absurd (omega arith)
   sort_type (is_param k l e) q st = absurd (omega arith)
 
-  pub sort_sort : LevelRow p r → (level_word p.words r 0 ≡ 1 → ⊥) → (st : State)
+  pub sort_sort : LevelRow p r → (level_word p.words r 0 ≡ 0 → ⊥) → (level_word p.words r 0 ≡ 1 → ⊥) → (st : State)
       → emit (quoted "Sort" ⊹ quoted " " ⊹ under 1024 (level_par (level_at p r))) st ≡ emit (sort_doc (level_at p r)) st
   unfolding sort_doc
-  sort_sort (is_zero k e) q st = rw e
-  sort_sort (is_succ k l e) q st = absurd (q k)
-  sort_sort (is_max k l m e) q st = rw e
-  sort_sort (is_imax k l m e) q st = rw e
-  sort_sort (is_param k l e) q st = rw e
+  sort_sort (is_zero k e) z q st = absurd (z k)
+  sort_sort (is_succ k l e) z q st = absurd (q k)
+  sort_sort (is_max k l m e) z q st = rw e
+  sort_sort (is_imax k l m e) z q st = rw e
+  sort_sort (is_param k l e) z q st = rw e
 
 -- ---- lists of levels
 

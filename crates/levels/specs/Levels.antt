@@ -26,9 +26,10 @@ succs_par (paramˡ p) n = plus (with_inner 1024 (name_doc p)) n
 abbrev pub level_par : Level → Parenable
 level_par l = succs_par l 0
 
--- "Sort: "Type"+" "+predecessor if the level is a successor, else "Sort"+" "+level, under 1,024."
+-- "Sort: "Type"+" "+predecessor if the level is a successor, else "Sort"+" "+level, under 1,024."; document 02, P5: "A sort whose level is
+-- a row of kind zero prints `Prop`"
 unfoldable pub sort_doc : Level → Marked
-sort_doc zeroˡ = quoted "Sort" ⊹ quoted " " ⊹ under 1024 (level_par zeroˡ)
+sort_doc zeroˡ = quoted "Prop"
 sort_doc (succˡ a) = quoted "Type" ⊹ quoted " " ⊹ under 1024 (level_par a)
 sort_doc (maxˡ a b) = quoted "Sort" ⊹ quoted " " ⊹ under 1024 (level_par (maxˡ a b))
 sort_doc (imaxˡ a b) = quoted "Sort" ⊹ quoted " " ⊹ under 1024 (level_par (imaxˡ a b))

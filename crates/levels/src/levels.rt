@@ -131,7 +131,11 @@ pub fn pp_sort(pool: &CheckedPool<'_>, sink: &mut Sink<'_>, r: usize)
     requires { r < L (lent pool.now).words }
     ensures { Leaves sink.old sink.new (emit (sort_doc (level_at (lent pool.now) r))) }
 {
-    if pool.words.level_kind(r) == Some(LevelKind::Succ) {
+    let kind = pool.words.level_kind(r);
+    if kind == Some(LevelKind::Zero) {
+        return put_word(sink, b"Prop");
+    }
+    if kind == Some(LevelKind::Succ) {
         let below = pool.words.level(r, LEVEL_FIRST);
         return put_sort(pool, sink, b"Type", below);
     }

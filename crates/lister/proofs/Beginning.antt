@@ -9,7 +9,7 @@ use borrow.Author.Tests.{ltb-true, leb-true}
 use Rattle.pool.specs.Tables.{Pool}
 use Rattle.pool_check.specs.declared.PoolError.{PoolError}
 use Rattle.pool_check.specs.Stages.{Limited}
-use Rattle.binders.specs.Options.{indented}
+use Rattle.binders.specs.Options.{options}
 use Rattle.declarations.specs.declared.listing.Root.{Root}
 use Rattle.declarations.specs.Roots.{row_of, roots_in, root_doc}
 use Rattle.lister.specs.declared.error.PrintError.TheVariants as errors
@@ -41,7 +41,7 @@ module _ (source : Source) (root : Root) (indent width : ℕ) (areas : Areas) wh
       size_refused s = rw (j, h, s)
 
       pub print_begins : sizes_ok indent width ≡ true
-          → print_doc (root_doc root (indented indent) (pool_of source)) width areas ≡ print source root indent width areas
+          → print_doc (root_doc root (options indent (pool_of source)) (pool_of source)) width areas ≡ print source root indent width areas
       unfolding print_with checked
       print_begins s = rw (j, h, s)
 
@@ -52,6 +52,8 @@ begins source p root indent width e limits h s =
     let sizes = and_both (leb indent 64) (leb width 65535) s in
     record {
       few = rw e limits.names;
+      few_strings = rw e limits.strings;
+      few_notation = rw e limits.notation;
       root_there = ltb-true (row_of root) (roots_in root p) h;
       indent_small = leb-true indent 64 sizes.0;
       width_small = leb-true width 65535 sizes.1;

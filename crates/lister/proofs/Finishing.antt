@@ -30,7 +30,7 @@ use Rattle.document.specs.declared.sink.Sink.{Sink}
 use Rattle.document.specs.Leaves.{Leaves, state_of}
 use Rattle.pool.specs.Tables.{Pool}
 use Rattle.pool.specs.Unfold.{expr_at, declar_at}
-use Rattle.binders.specs.Options.{indented}
+use Rattle.binders.specs.Options.{options}
 use Rattle.declarations.specs.declared.listing.Root.{Root}
 use Rattle.declarations.specs.declared.listing.Root.TheVariants.{Expr, Declar}
 use Rattle.declarations.specs.Roots.{root_doc}
@@ -153,9 +153,9 @@ unfolding of_laid
 refused_laid l error e = rw e
 
 -- a root's document keeps 01's limits on blanks and nests
-pub root_fine : (root : Root) (indent : ℕ) → indent ≤ 64 → (p : Pool) → Fine (unmarked (root_doc root (indented indent) p))
-root_fine (Expr row) indent h p = expr_fine (indented indent) h (expr_at p row)
-root_fine (Declar row) indent h p = declar_fine (indented indent) h (declar_at p row)
+pub root_fine : (root : Root) (indent : ℕ) → indent ≤ 64 → (p : Pool) → Fine (unmarked (root_doc root (options indent p) p))
+root_fine (Expr row) indent h p = expr_fine (options indent p) h (expr_at p row)
+root_fine (Declar row) indent h p = declar_fine (options indent p) h (declar_at p row)
 
 -- A sink that was new, after its walk: what it leaves in the areas.
 module _

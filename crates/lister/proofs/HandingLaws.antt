@@ -16,7 +16,7 @@ use Rattle.pool.specs.Tables.{S, string_word, string_at}
 use Rattle.pool.specs.Rules.{rising, string_ok}
 use Rattle.pool.proofs.Clips.{part_clip}
 use Rattle.pool_check.specs.declared.PoolError.{PoolError}
-use Rattle.pool_check.specs.declared.PoolError.TheVariants.{Words, Limit, Strings, Rows}
+use Rattle.pool_check.specs.declared.PoolError.TheVariants.{Words, Limit, Strings, Rows, Notation}
 use Rattle.pool_check.specs.Check.{number, is_accepted}
 use Rattle.pool_check.proofs.Acceptance.{accepted, accepted_is}
 use Rattle.utf8.specs.Utf8.{utf8}
@@ -123,6 +123,7 @@ refused_is Words = refl
 refused_is Limit = refl
 refused_is (Strings row) = refl
 refused_is (Rows row) = refl
+refused_is Notation = refl
 
 module _ (source : Source) (r : ℕ) where
   pub string_refused : (e : PoolError) → judged source ≡ Err e → empty ≡ string_span source r

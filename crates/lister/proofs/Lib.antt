@@ -5,3 +5,4 @@ pub mod Finishing
 pub mod LastProjection
 pub mod RowKinds
 pub mod HandingLaws
+pub mod Operating

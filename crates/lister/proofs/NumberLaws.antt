@@ -30,7 +30,7 @@ refusal_reports (row_area rows) = (refl, refl)
 refusal_reports (text_area rows) = (refl, refl)
 refusal_reports listing = (refl, refl)
 
--- 1 to 4: check's
+-- 1 to 4 and 31: check's
 pub pool_reports : (e : PoolError) → (number (Err (of_pool e)) ≡ check.number (Err e)) × (place (Err (of_pool e)) ≡ check.place (Err e))
 unfolding number place
 pool_reports e = (refl, refl)

@@ -7,7 +7,7 @@ use Rattle.layout.specs.Call as layout
 use Rattle.pool_check.specs.declared.PoolError.{PoolError}
 use Rattle.pool.specs.Tables.{Pool}
 use Rattle.pool.specs.Rules.{last_projection}
-use Rattle.binders.specs.Options.{indented}
+use Rattle.binders.specs.Options.{options}
 use Rattle.declarations.specs.declared.listing.Root.{Root}
 use Rattle.declarations.specs.declared.listing.Root.TheVariants.{Expr, Declar}
 use Rattle.declarations.specs.Roots.{row_of, roots_in, root_doc}
@@ -25,7 +25,7 @@ pub record Outcome : Type 0 where
   pub answer : Answer
   pub areas : Areas
 
--- "1 to 6 and 9 change no area."
+-- "1 to 6 and 9 change no area."; nor does 31, which check finds too
 unfoldable pub untouched : Answer → Areas → Outcome
 untouched a areas = record { answer = a; areas = areas }
 
@@ -76,7 +76,7 @@ sizes_ok indent width = leb indent 64 && leb width 65535
 abbrev pub has_root : Root → Pool → Bool
 has_root root p = ltb (row_of root) (roots_in root p)
 
--- "Check order as listed": 1 to 4, then 5, then 6, then what the print itself meets
+-- "Check order as listed": 1 to 4, then 31, then 5, then 6, then what the print itself meets
 unfoldable pub checked : Result Unit PoolError → Bool → Bool → Outcome → Areas → Outcome
 checked (Ok _) present sizes print areas =
     cond present (cond sizes print (untouched (refusal 6 0) areas)) (untouched (refusal 5 0) areas)
@@ -85,8 +85,9 @@ checked (Err error) present sizes print areas = untouched (Err (of_pool error)) 
 -- the print of a root; with a greatest index of a projection
 unfoldable pub print_with : ℕ → Source → Root → ℕ → ℕ → Areas → Outcome
 print_with last source root indent width areas =
-    let printed : Outcome = print_doc (root_doc root (indented indent) (pool_of source)) width areas in
-    checked (judged_with last source) (has_root root (pool_of source)) (sizes_ok indent width) printed areas
+    let p : Pool = pool_of source in
+    let printed : Outcome = print_doc (root_doc root (options indent p) p) width areas in
+    checked (judged_with last source) (has_root root p) (sizes_ok indent width) printed areas
 
 abbrev pub print : Source → Root → ℕ → ℕ → Areas → Outcome
 print = print_with last_projection

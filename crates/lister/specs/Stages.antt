@@ -4,7 +4,7 @@ use Rattle.document.specs.declared.written.Stop.{Stop}
 use Rattle.document.specs.declared.written.Written.{Written}
 use Rattle.document.specs.Rows.{Accepted}
 use Rattle.layout.specs.Call as call
-use Rattle.pool.specs.Tables.{Pool, N}
+use Rattle.pool.specs.Tables.{Pool, S, N, T}
 use Rattle.declarations.specs.declared.listing.Root.{Root}
 use Rattle.declarations.specs.Roots.{row_of, roots_in}
 use Rattle.lister.specs.Answers.{of_stop, of_laid}
@@ -12,9 +12,11 @@ use Rattle.lister.specs.Prints.{Areas, Outcome, document_cleared}
 
 -- ---- before a print
 
--- what a print that may begin has: a pool each of whose name rows fits 16 bits, a root in it, and allowed sizes
+-- what a print that may begin has: a pool of few strings, names and notation rows, a root in it, and allowed sizes
 pub record Begins (p : Pool) (root : Root) (indent width : ℕ) : Type 0 where
   pub few : N p.names ≤ 65536
+  pub few_strings : S p.names ≤ 65536
+  pub few_notation : T p.words ≤ 65536
   pub root_there : row_of root < roots_in root p
   pub indent_small : indent ≤ 64
   pub width_small : width ≤ 65535

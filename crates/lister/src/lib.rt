@@ -86,7 +86,7 @@ pub fn print(
     print_checked(pool, root, indent, width, rows, text, listing)
 }
 
-// The pool, where it is accepted, and else the first of the numbers 1 to 4 that refuses it, with its place.
+// The pool, where it is accepted, and else the first of the numbers 1 to 4 and 31 that refuses it, with its place.
 pub fn check(source: Source<'_>) -> Result<CheckedPool<'_>, PoolError>
     ensures { as_verdict result ≡ judged (given source.entry) }
 {

@@ -36,6 +36,7 @@ impl Refusal for PoolError {
             PoolError::Limit => 2,
             PoolError::Strings { .. } => 3,
             PoolError::Rows { .. } => 4,
+            PoolError::Notation => 31,
         }
     }
 

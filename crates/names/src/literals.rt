@@ -25,8 +25,8 @@ pub fn pp_const(pool: &CheckedPool<'_>, sink: &mut Sink<'_>, r: usize)
     sink.put_join()
 }
 
-// The natural whose digits are string row r.
-pub fn pp_nat(pool: &CheckedPool<'_>, sink: &mut Sink<'_>, r: usize)
+// The bytes of string row r as they are: the digits of a natural, the string of an operator.
+pub fn pp_raw(pool: &CheckedPool<'_>, sink: &mut Sink<'_>, r: usize)
     requires { (r < S (lent pool.now).names) }
     ensures { Leaves sink.old sink.new (emit (textᵐ (string_at (lent pool.now) r))) }
 {
@@ -39,7 +39,7 @@ pub fn pp_string(pool: &CheckedPool<'_>, sink: &mut Sink<'_>, r: usize)
     ensures { Leaves sink.old sink.new (emit (quoted "\"" ⊹ textᵐ (string_at (lent pool.now) r) ⊹ quoted "\"")) }
 {
     put_word(sink, b"\"");
-    pp_nat(pool, sink, r);
+    pp_raw(pool, sink, r);
     sink.put_join();
     join_word(sink, b"\"")
 }

@@ -36,6 +36,14 @@ pub fn join_line(sink: &mut Sink<'_>)
     sink.put_join();
 }
 
+// A break with none.
+pub fn join_zero_width_line(sink: &mut Sink<'_>)
+    ensures { Leaves sink.old sink.new (λ st. put_join (put_break 0 st)) }
+{
+    sink.put_break(0);
+    sink.put_join();
+}
+
 // The next subtree of a tile is written after its break: they are joined, grouped, and joined to the tile so far.
 #[tactic(auto, unfolding(crate::specs::Tiles::end_tile))]
 pub fn end_tile(sink: &mut Sink<'_>)

@@ -2,7 +2,7 @@
 use Rattle.std.specs.Prelude.{ℕ, ◌<◌, List, ◌≡◌}
 use Rattle.pool.specs.declared.tables.NameTables.{NameTables}
 use Rattle.pool.specs.declared.tables.WordTables.{WordTables}
-use Rattle.pool.specs.Tables.{Pool, S, N, L, K, Q, E, D, names_at, levels_at, lists_at, list_words_at, exprs_at, declars_at, total}
+use Rattle.pool.specs.Tables.{Pool, S, N, L, K, Q, E, D, T, names_at, levels_at, lists_at, list_words_at, exprs_at, declars_at, notation_at, total}
 
 -- the pool of a byte area, the words of the strings and names, and the words of the rest
 abbrev pub over : List ℕ → List ℕ → List ℕ → Pool
@@ -23,10 +23,12 @@ pub record WordsOf (ws : List ℕ) (t : WordTables) : Type 0 where
   pub entries : t.entries ≡ Q ws
   pub exprs : t.exprs ≡ E ws
   pub declars : t.declars ≡ D ws
+  pub notation : t.notation ≡ T ws
   pub levels_at : t.levels_at ≡ levels_at ws
   pub lists_at : t.lists_at ≡ lists_at ws
   pub entries_at : t.entries_at ≡ list_words_at ws
   pub exprs_at : t.exprs_at ≡ exprs_at ws
   pub declars_at : t.declars_at ≡ declars_at ws
+  pub notation_at : t.notation_at ≡ notation_at ws
   pub total : t.total ≡ total ws
   pub small : t.total < 1099511627776

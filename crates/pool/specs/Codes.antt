@@ -10,6 +10,8 @@ use Rattle.pool.specs.declared.kinds.BinderStyle.{BinderStyle}
 use Rattle.pool.specs.declared.kinds.BinderStyle.TheVariants.{Default, Implicit, Strict, Instance}
 use Rattle.pool.specs.declared.kinds.DeclarKind.{DeclarKind}
 use Rattle.pool.specs.declared.kinds.DeclarKind.TheVariants.{Axiom, Quotient, Theorem, Definition, Opaque, Inductive, Constructor, Recursor}
+use Rattle.pool.specs.declared.kinds.NotationKind.{NotationKind}
+use Rattle.pool.specs.declared.kinds.NotationKind.TheVariants.{Prefix, Infix, Postfix}
 use Rattle.pool.specs.declared.kinds.UnknownKind.{UnknownKind}
 
 -- "0 anonymous; 1 string (low = string row); 2 number (64 bits)"
@@ -57,6 +59,12 @@ declar_code Inductive = 5
 declar_code Constructor = 6
 declar_code Recursor = 7
 
+-- document 02, P5: "kind (0 prefix, 1 infix, 2 postfix)"
+abbrev pub notation_code : NotationKind → ℕ
+notation_code Prefix = 0
+notation_code Infix = 1
+notation_code Postfix = 2
+
 -- a word is read as the kind that it stands for, or is an error that holds it, above all kinds
 abbrev pub Reads : {K : Type 0} → (K → ℕ) → ℕ → ℕ → Result K UnknownKind → Type 0
 Reads code last word r = MatchResult r (λ kind. code kind ≡ word) (λ e. (e.0 ≡ word) × (last < word))
@@ -75,6 +83,9 @@ StylesKind = Reads style_code 3
 
 abbrev pub DeclarsKind : ℕ → Result DeclarKind UnknownKind → Type 0
 DeclarsKind = Reads declar_code 7
+
+abbrev pub NotationsKind : ℕ → Result NotationKind UnknownKind → Type 0
+NotationsKind = Reads notation_code 2
 
 -- the kind that a word stands for, if it stands for one
 abbrev pub Stands : {K : Type 0} → (K → ℕ) → ℕ → ℕ → Option K → Type 0

@@ -1,4 +1,4 @@
--- 01, Pool: the kinds that the rows of each table go by.
+-- 01, Pool, and document 02, P5: the kinds that the rows of each table go by.
 use Rattle.std.specs.Prelude.{ℕ, zero, suc}
 
 -- "0 anonymous; 1 string (low = string row); 2 number (64 bits)"
@@ -39,3 +39,13 @@ expr_kind (suc (suc (suc (suc (suc (suc (suc zero))))))) = projᵏ
 expr_kind (suc (suc (suc (suc (suc (suc (suc (suc zero)))))))) = natᵏ
 expr_kind (suc (suc (suc (suc (suc (suc (suc (suc (suc zero))))))))) = strᵏ
 expr_kind (suc (suc (suc (suc (suc (suc (suc (suc (suc (suc k)))))))))) = noExprᵏ
+
+-- document 02, P5: "kind (0 prefix, 1 infix, 2 postfix)"
+pub data NotationKind : Type 0 where
+  prefixᵏ infixᵏ postfixᵏ noNotationᵏ : NotationKind
+
+unfoldable pub notation_kind : ℕ → NotationKind
+notation_kind zero = prefixᵏ
+notation_kind (suc zero) = infixᵏ
+notation_kind (suc (suc zero)) = postfixᵏ
+notation_kind (suc (suc (suc k))) = noNotationᵏ

@@ -4,6 +4,7 @@ pub mod Kinds
 pub mod Tree
 pub mod Unfold
 pub mod Rules
+pub mod Notation
 -- what the contracts and the proofs speak of
 pub mod Codes
 pub mod Areas

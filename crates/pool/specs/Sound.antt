@@ -1,6 +1,7 @@
 -- A pool every row of which keeps its rules: what the printers ask of a pool that was checked.
 use Rattle.std.specs.Prelude.{ℕ, ◌<◌, true, ◌≡◌}
-use Rattle.pool.specs.Tables.{Pool, S, N, L, K, Q, E, D}
+use Rattle.pool.specs.Tables.{Pool, S, N, L, K, Q, E, D, T}
+use Rattle.pool.specs.Notation.{notation_ok}
 use Rattle.pool.specs.Rules.{string_ok, name_ok, level_ok, list_ok, list_entry_ok, expr_ok, declar_ok}
 
 pub record Sound (p : Pool) : Type 0 where
@@ -11,3 +12,4 @@ pub record Sound (p : Pool) : Type 0 where
   pub entries : (i : ℕ) → i < Q p.words → list_entry_ok p i ≡ true
   pub exprs : (r : ℕ) → r < E p.words → expr_ok p r ≡ true
   pub declars : (r : ℕ) → r < D p.words → declar_ok p r ≡ true
+  pub notation : (r : ℕ) → r < T p.words → notation_ok p r ≡ true

@@ -1,5 +1,6 @@
 -- 01, Pool: "A byte area and u32 words. Seven head words: the counts S, N, L, K, Q, E, D. Then tables in that order;
--- total words = 7 + 2S + 4N + 3L + 2K + Q + 8E + 5D. Rows number from 0."
+-- total words = 7 + 2S + 4N + 3L + 2K + Q + 8E + 5D. Rows number from 0."; with document 02, P5: "Every pool now has an eighth head word, the
+-- count of notation rows behind the declarations ..; the word total grows by one for it and by four for each row."
 use Rattle.std.specs.Prelude.{ℕ, ◌+◌, ◌*◌, List, get_or, take, drop}
 
 -- `names` are the words that hold the strings and the names, `words` those that hold the rest: the same area.
@@ -33,9 +34,13 @@ E ws = get_or ws 5 0
 abbrev pub D : List ℕ → ℕ
 D ws = get_or ws 6 0
 
+-- the count of notation rows
+abbrev pub T : List ℕ → ℕ
+T ws = get_or ws 7 0
+
 -- where each table starts; the last one's end is the total
 abbrev pub strings_at : List ℕ → ℕ
-strings_at ws = 7
+strings_at ws = 8
 
 abbrev pub names_at : List ℕ → ℕ
 names_at ws = strings_at ws + 2 * S ws
@@ -55,8 +60,11 @@ exprs_at ws = list_words_at ws + Q ws
 abbrev pub declars_at : List ℕ → ℕ
 declars_at ws = exprs_at ws + 8 * E ws
 
+abbrev pub notation_at : List ℕ → ℕ
+notation_at ws = declars_at ws + 5 * D ws
+
 abbrev pub total : List ℕ → ℕ
-total ws = declars_at ws + 5 * D ws
+total ws = notation_at ws + 4 * T ws
 
 -- the word k of row r of each table
 unfoldable pub string_word : List ℕ → ℕ → ℕ → ℕ
@@ -79,6 +87,9 @@ expr_word ws r k = get_or ws (exprs_at ws + r * 8 + k) 0
 
 unfoldable pub declar_word : List ℕ → ℕ → ℕ → ℕ
 declar_word ws r k = get_or ws (declars_at ws + r * 5 + k) 0
+
+unfoldable pub notation_word : List ℕ → ℕ → ℕ → ℕ
+notation_word ws r k = get_or ws (notation_at ws + r * 4 + k) 0
 
 -- the bytes of string row r
 unfoldable pub string_at : Pool → ℕ → List ℕ

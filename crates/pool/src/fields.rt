@@ -83,3 +83,12 @@ pub const DECLAR_LIST: usize = 2;
 pub const DECLAR_TYPE: usize = 3;
 
 pub const DECLAR_VALUE: usize = 4;
+
+// A notation row's.
+pub const NOTATION_NAME: usize = 0;
+
+pub const NOTATION_KIND: usize = 1;
+
+pub const NOTATION_PRIORITY: usize = 2;
+
+pub const NOTATION_STRING: usize = 3;

@@ -1,5 +1,5 @@
-// The kinds of the rows of each table, as document 01 numbers them, and the styles of binders.
-ghost use Rattle.pool.specs.Codes.{DeclarsKind, ExprsKind, LevelsKind, NamesKind, StylesKind};
+// The kinds of the rows of each table, as documents 01 and 02 number them, and the styles of binders.
+ghost use Rattle.pool.specs.Codes.{DeclarsKind, ExprsKind, LevelsKind, NamesKind, NotationsKind, StylesKind};
 
 use std::error::Error;
 use std::fmt;
@@ -52,6 +52,13 @@ pub enum DeclarKind {
     Inductive,
     Constructor,
     Recursor,
+}
+
+#[derive(Clone, Copy, Debug, PartialEq, Eq)]
+pub enum NotationKind {
+    Prefix,
+    Infix,
+    Postfix,
 }
 
 // A word that stands for no kind of its table.
@@ -151,6 +158,21 @@ impl TryFrom<usize> for DeclarKind {
             5 => Ok(DeclarKind::Inductive),
             6 => Ok(DeclarKind::Constructor),
             7 => Ok(DeclarKind::Recursor),
+            _ => Err(UnknownKind(word)),
+        }
+    }
+}
+
+impl TryFrom<usize> for NotationKind {
+    type Error = UnknownKind;
+
+    ghost try_from_gives = { NotationsKind };
+
+    fn try_from(word: usize) -> Result<NotationKind, UnknownKind> {
+        match word {
+            0 => Ok(NotationKind::Prefix),
+            1 => Ok(NotationKind::Infix),
+            2 => Ok(NotationKind::Postfix),
             _ => Err(UnknownKind(word)),
         }
     }

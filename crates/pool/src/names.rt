@@ -29,7 +29,7 @@ impl<'a> Names<'a> {
         requires { k < 8 }
         ensures { (result ≡ string_word self.now.words.now r k) × (result < 4294967296) }
     {
-        row_word(self.words, 7, 2, r, k)
+        row_word(self.words, 8, 2, r, k)
     }
 
     // The word k of a name row; 0 past the end.

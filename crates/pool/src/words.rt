@@ -1,11 +1,11 @@
-// The words of a pool that hold its levels, lists, expressions and declarations, with their tables.
+// The words of a pool that hold its levels, lists, expressions, declarations and notation rows, with their tables.
 ghost use Rattle.std.specs.Prelude.{◌≡◌, ◌<◌};
-ghost use Rattle.pool.specs.Tables.{level_word, list_word, list_entry, expr_word, declar_word};
+ghost use Rattle.pool.specs.Tables.{level_word, list_word, list_entry, expr_word, declar_word, notation_word};
 ghost use Rattle.pool.specs.Areas.{WordsOf};
-ghost use Rattle.pool.specs.Codes.{Stands, declar_code, expr_code, level_code, style_code};
+ghost use Rattle.pool.specs.Codes.{Stands, declar_code, expr_code, level_code, notation_code, style_code};
 
-use crate::fields::{BINDER_STYLE, DECLAR_KIND, EXPR_KIND, LEVEL_KIND};
-use crate::kinds::{BinderStyle, DeclarKind, ExprKind, LevelKind};
+use crate::fields::{BINDER_STYLE, DECLAR_KIND, EXPR_KIND, LEVEL_KIND, NOTATION_KIND};
+use crate::kinds::{BinderStyle, DeclarKind, ExprKind, LevelKind, NotationKind};
 use crate::tables::{WordTables, row_word, word_tables};
 
 #[derive(Clone, Copy)]
@@ -17,7 +17,7 @@ pub struct Words<'a> {
 
 // The word k of a row of each table; 0 past the end. That a row is below its table's count stands in each contract that needs it: a type of
 // such rows would hold the words too.
-#[tactic(auto, unfolding(crate::specs::Tables::level_word, crate::specs::Tables::list_word, crate::specs::Tables::list_entry, crate::specs::Tables::expr_word, crate::specs::Tables::declar_word))]
+#[tactic(auto, unfolding(crate::specs::Tables::level_word, crate::specs::Tables::list_word, crate::specs::Tables::list_entry, crate::specs::Tables::expr_word, crate::specs::Tables::declar_word, crate::specs::Tables::notation_word))]
 impl<'a> Words<'a> {
     pub fn of(words: &'a [u32]) -> Words<'a>
         ensures { result.words.now ≡ words.now }
@@ -61,6 +61,13 @@ impl<'a> Words<'a> {
         row_word(self.words, self.tables.declars_at, 5, r, k)
     }
 
+    pub fn notation(&self, r: usize, k: usize) -> usize
+        requires { k < 8 }
+        ensures { (result ≡ notation_word self.now.words.now r k) × (result < 4294967296) }
+    {
+        row_word(self.words, self.tables.notation_at, 4, r, k)
+    }
+
     // The kind of a row of each table, and the style of a binder, if its word stands for one.
     pub fn level_kind(&self, r: usize) -> Option<LevelKind>
         ensures { Stands level_code 4 (level_word self.now.words.now r 0) result }
@@ -84,5 +91,11 @@ impl<'a> Words<'a> {
         ensures { Stands declar_code 7 (declar_word self.now.words.now r 0) result }
     {
         DeclarKind::try_from(self.declar(r, DECLAR_KIND)).ok()
+    }
+
+    pub fn notation_kind(&self, r: usize) -> Option<NotationKind>
+        ensures { Stands notation_code 2 (notation_word self.now.words.now r 1) result }
+    {
+        NotationKind::try_from(self.notation(r, NOTATION_KIND)).ok()
     }
 }

@@ -4,7 +4,8 @@ use mathlib.Core.Bool.{Bool, true, false}
 use mathlib.Core.List.{List}
 use mathlib.Core.Path.{◌≡◌, refl, sym, ap, ◌∙◌}
 use lib.Dec.{ltb}
-use Rattle.std.specs.Prelude.{None, Some, Result, Ok, Err}
+use Rattle.std.specs.Prelude.{None, Some, is_none, Result, Ok, Err}
+use Rattle.basics.proofs.Booleans.{true-false, false-true}
 use Rattle.std.specs.Result.{IsErrAnd}
 use Rattle.pool_check.specs.declared.PoolError.{PoolError}
 use Rattle.pool_check.specs.declared.PoolError.TheVariants.{Words, Limit}
@@ -29,6 +30,24 @@ module _ (ok : ℕ → Bool) (count : ℕ) (refused : ℕ → PoolError) (next :
     where
       by : (b : Bool) → ltb (first_bad ok count 0) count ≡ b → next ≡ in_table ok count refused next
       by true q = let f = rw q at e in absurd (cc)
+      by false q = rw q
+
+-- a table of which the code knows whether all rows are right, refused in one way whatever the row
+module _ (ok : ℕ → Bool) (count : ℕ) (e : PoolError) (next : Result Unit PoolError) (right : Bool) (is : right ≡ is_none (found ok count)) where
+  pub refused_whole : right ≡ false → Err e ≡ in_table ok count (λ r. e) next
+  unfolding found
+  refused_whole f = by (ltb (first_bad ok count 0) count) refl
+    where
+      by : (b : Bool) → ltb (first_bad ok count 0) count ≡ b → Err e ≡ in_table ok count (λ r. e) next
+      by true q = rw q
+      by false q = let g = rw q at is in true-false (sym g ∙ f)
+
+  pub passed_whole : right ≡ true → next ≡ in_table ok count (λ r. e) next
+  unfolding found
+  passed_whole f = by (ltb (first_bad ok count 0) count) refl
+    where
+      by : (b : Bool) → ltb (first_bad ok count 0) count ≡ b → next ≡ in_table ok count (λ r. e) next
+      by true q = let g = rw q at is in false-true (sym g ∙ f)
       by false q = rw q
 
 -- the whole check of the pool p: w and l are what its two first tests find

@@ -1,4 +1,4 @@
-// Check: whether a pool keeps document 01's rules (numbers 1 to 4).
+// Check: whether a pool keeps the rules of documents 01 and 02 (numbers 1 to 4, and 31).
 #![tactic(auto)]
 
 mod declars;
@@ -11,16 +11,18 @@ ghost use Rattle.std.specs.Prelude.{◌≡◌, IfOk};
 ghost use Rattle.pool.specs.Tables.{pool};
 ghost use Rattle.pool.specs.Views.{read, lent};
 ghost use Rattle.pool_check.specs.Check.{words_ok, rows_verdict, verdict};
+ghost use Rattle.notation.specs.Classes.{NamesRight};
 ghost use Rattle.pool_check.specs.Stages.{as_verdict, limits, words_verdict, Small, Limited};
 
 use byte_check::strings::first_bad_string;
 use expr_check::exprs::first_bad_expr;
+use notation::operators::notation_ok;
 use pool::checked::CheckedPool;
 use pool::pool::Pool;
 use std::error::Error;
 use std::fmt;
 
-// Why a pool is refused: 01's numbers 1 to 4.
+// Why a pool is refused.
 #[derive(Clone, Copy, Debug, PartialEq, Eq)]
 pub enum PoolError {
     // 1: the words are short of the head, or their total is wrong.
@@ -31,6 +33,8 @@ pub enum PoolError {
     Strings { row: usize },
     // 4: any other row rule.
     Rows { row: usize },
+    // 31: a notation row breaks a rule, or a name tree is given twice.
+    Notation,
 }
 
 impl fmt::Display for PoolError {
@@ -40,6 +44,7 @@ impl fmt::Display for PoolError {
             PoolError::Limit => f.write_str("a count or the byte area is over its limit"),
             PoolError::Strings { row } => write!(f, "row {row} of the strings breaks a rule"),
             PoolError::Rows { row } => write!(f, "row {row} of another table breaks a rule"),
+            PoolError::Notation => f.write_str("a notation row breaks a rule"),
         }
     }
 }
@@ -51,7 +56,7 @@ fn words_ok(pool: &Pool<'_>) -> bool
     ensures { result ≡ words_ok (read pool.now).words }
 {
     let size = pool.words.words.len();
-    7 <= size && pool.words.tables.total == size
+    8 <= size && pool.words.tables.total == size
 }
 
 // "each at most 65,536", "at most 16,777,216 bytes"
@@ -60,15 +65,17 @@ fn limits_ok(pool: &Pool<'_>) -> bool
 {
     let names = &pool.names.tables;
     let words = &pool.words.tables;
-    let last = words.declars <= 65536 && pool.bytes.len() <= 16777216;
+    let bytes = words.notation <= 65536 && pool.bytes.len() <= 16777216;
+    let last = words.declars <= 65536 && bytes;
     let exprs = words.entries <= 65536 && (words.exprs <= 65536 && last);
     let rest = words.levels <= 65536 && (words.lists <= 65536 && exprs);
     names.strings <= 65536 && (names.names <= 65536 && rest)
 }
 
-// The tables from the levels on, in 01's order. A return for each, so that each is a goal of its own.
+// The tables from the levels on, in order; the notation last, since its names have to be right. A return for each, so that each is a goal of its own.
 fn check_words(pool: &Pool<'_>) -> Result<(), PoolError>
-    requires { Small (read pool.now) }
+    requires few { Small (read pool.now) }
+    requires right { NamesRight (read pool.now) }
     ensures { result ≡ words_verdict (read pool.now) }
 {
     if let Some(row) = levels::first_bad_level(pool) {
@@ -85,6 +92,9 @@ fn check_words(pool: &Pool<'_>) -> Result<(), PoolError>
     }
     if let Some(row) = declars::first_bad_declar(pool) {
         return Err(PoolError::Rows { row });
+    }
+    if !notation_ok(pool) {
+        return Err(PoolError::Notation);
     }
     Ok(())
 }
@@ -103,7 +113,7 @@ fn check_rows(pool: &Pool<'_>) -> Result<(), PoolError>
     check_words(pool)
 }
 
-// The pool, where it is accepted, and else the first of the numbers 1 to 4 that refuses it, with its place.
+// The pool, where it is accepted, and else the first of the numbers 1 to 4 and 31 that refuses it, with its place.
 pub fn check<'a>(bytes: &'a [u8], words: &'a [u32]) -> Result<CheckedPool<'a>, PoolError>
     ensures verdict { as_verdict result ≡ verdict bytes.now words.now }
     ensures same { IfOk result (λ p. lent p ≡ pool bytes.now words.now) }

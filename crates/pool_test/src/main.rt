@@ -20,6 +20,7 @@ fn refused(error: PoolError) -> Reply {
         PoolError::Limit => (2, 0),
         PoolError::Strings { row } => (3, row as u64),
         PoolError::Rows { row } => (4, row as u64),
+        PoolError::Notation => (31, 0),
     };
     Reply { number, place }
 }
@@ -68,7 +69,7 @@ fn cases(rt: &impl Print, data: &[u8], words: &mut [u32]) -> io::Result<()> {
 
 fn main(rt: HostRuntime) -> io::Result<()> {
     let mut data = [0u8; 131072];
-    let mut words = vec![in rt.alloc(); 0u32; 524303]?;
+    let mut words = vec![in rt.alloc(); 0u32; 524304]?;
     read_full(&mut rt.reader(), &mut data)?;
     cases(&rt, &data, &mut words)?;
     letters::changes(&rt)

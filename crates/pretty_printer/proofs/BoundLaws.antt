@@ -5,12 +5,16 @@ use mathlib.Core.List.{List, [], ◌∷◌, map}
 use mathlib.Core.Path.{◌≡◌, refl, ap, ap₂}
 use lib.ListN.{length}
 use Rattle.pool.proofs.TreeLaws.{lift-depth}
+use Rattle.std.specs.Prelude.{Option, None, Some}
+use Rattle.pool.specs.Kinds.{NotationKind, prefixᵏ, infixᵏ, postfixᵏ, noNotationᵏ}
+use Rattle.pool.specs.Notation.{Operator}
 use Rattle.pool.specs.Tree.{Expr, var, sort, const, app, pi, lam, letᵉ, proj, nat, str, depth}
 use Rattle.pieces.specs.Docs.{Parenable, G, under, tile}
 use Rattle.binders.specs.Runs.{runs}
 use Rattle.binders.specs.Binders.{Binder, binders, chain_body, pushed, group_doc, telescope, arrow_par, forall_par, fun_par, run_par, runs_par, binders_par, same_group}
 use Rattle.binders.specs.Binders.{goes_along}
-use Rattle.pretty_printer.specs.Exprs.{app_head, app_args, app_par, chain_par, expr_par_to}
+use Rattle.binders.specs.Operators.{head_operator}
+use Rattle.pretty_printer.specs.Exprs.{app_head, app_args, app_par, operator_par, applied_par, chain_par, expr_par_to}
 use Rattle.binders.proofs.RunLaws.{All, all_runs}
 use Rattle.binders.specs.Options.{PpOptions}
 use Rattle.binders.specs.Shown.{NamesInForce}
@@ -133,6 +137,30 @@ module _ (opts : PpOptions) (pp qq : Expr → Parenable) where
             (all_map (λ a. pp a ≡ qq a) (λ a. G (under 1024 (pp a)) ≡ G (under 1024 (qq a))) (λ a w. ap (λ p. G (under 1024 p)) w) args h),
       )
 
+  abbrev AgreeOn : Expr → Type 0
+  AgreeOn a = pp a ≡ qq a
+
+  operator_agrees : (o : Operator) (k : NotationKind) (head : Expr) (args : List Expr) → pp head ≡ qq head → All AgreeOn args
+      → operator_par opts pp o k head args ≡ operator_par opts qq o k head args
+  unfolding operator_par All
+  operator_agrees o prefixᵏ head [] e h = app_agrees head [] e h
+  operator_agrees o prefixᵏ head (x ∷ []) e h = rw h.0
+  operator_agrees o prefixᵏ head (x ∷ y ∷ more) e h = app_agrees head (x ∷ y ∷ more) e h
+  operator_agrees o infixᵏ head [] e h = app_agrees head [] e h
+  operator_agrees o infixᵏ head (x ∷ []) e h = app_agrees head (x ∷ []) e h
+  operator_agrees o infixᵏ head (x ∷ y ∷ []) e h = rw (h.0, h.1.0)
+  operator_agrees o infixᵏ head (x ∷ y ∷ z ∷ more) e h = app_agrees head (x ∷ y ∷ z ∷ more) e h
+  operator_agrees o postfixᵏ head [] e h = app_agrees head [] e h
+  operator_agrees o postfixᵏ head (x ∷ []) e h = rw h.0
+  operator_agrees o postfixᵏ head (x ∷ y ∷ more) e h = app_agrees head (x ∷ y ∷ more) e h
+  operator_agrees o noNotationᵏ head args e h = app_agrees head args e h
+
+  pub applied_agrees : (o : Option Operator) (head : Expr) (args : List Expr) → pp head ≡ qq head → All AgreeOn args
+      → applied_par opts pp o head args ≡ applied_par opts qq o head args
+  unfolding applied_par
+  applied_agrees None head args e h = app_agrees head args e h
+  applied_agrees (Some o) head args e h = operator_agrees o o.kind head args e h
+
 -- ---- the bound
 
 depth_positive : (e : Expr) → 1 ≤ depth e
@@ -174,7 +202,7 @@ step opts m n below ns (var i) h k = refl
 step opts m n below ns (sort l) h k = refl
 step opts m n below ns (const a ls) h k = refl
 step opts m n below ns (app f a) h k =
-    app_agrees opts (expr_par_to opts m ns) (expr_par_to opts n ns) (app_head f) (app_args f (a ∷ []))
+    applied_agrees opts (expr_par_to opts m ns) (expr_par_to opts n ns) (head_operator opts f) (app_head f) (app_args f (a ∷ []))
     (below ns (app_head f) (omega (arith, head_depth f)) (omega (arith, head_depth f)))
     (all_two (Within m) (Within n) (λ x. expr_par_to opts m ns x ≡ expr_par_to opts n ns x) (λ x p q. below ns x p q) (app_args f (a ∷ []))
     (args_depth m f (a ∷ []) (omega arith) (all_one (Within m) a (omega arith)))

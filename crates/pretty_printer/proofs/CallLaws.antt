@@ -40,8 +40,11 @@ use Rattle.pieces.specs.Puts.{end_proj, start_let, put_assign, end_let}
 use Rattle.binders.specs.Steps.{level_of}
 use Rattle.binders.proofs.RenameLaws.{rename_agrees, own_variable}
 use Rattle.binders.proofs.ScopeLaws.{chain_is_scoped, body_is_scoped, names_are_pushed, chain_under, grown_names, let_scope, push_last, push_grown}
-use Rattle.pretty_printer.proofs.ExprLaws.{prints_var, prints_sort, prints_const, prints_nat, prints_str, prints_proj, prints_app, prints_pi, prints_lam}
+use Rattle.pretty_printer.proofs.ExprLaws.{prints_var, prints_sort, prints_const, prints_nat, prints_str, prints_proj, prints_pi, prints_lam}
 use Rattle.pretty_printer.proofs.ExprLaws.{prints_let}
+use Rattle.pretty_printer.proofs.OperatorLaws.{idle_prints}
+use Rattle.binders.specs.Acting.{acting}
+use Rattle.std.specs.Prelude.{None}
 use Rattle.pretty_printer.proofs.EmitLaws.{app_is_spine}
 use Rattle.binders.proofs.ViewLaws.{first_made}
 use Rattle.pretty_printer.proofs.PartLaws.{binders_level, arrow_type}
@@ -117,15 +120,15 @@ module _ (opts : PpOptions) (p : Pool) (k : Stack) (h : ℕ) where
 
   -- ---- applications
 
-  pub app_prints : (outer : ℕ) (f a : Expr) (st : State) →
+  pub app_prints : (outer : ℕ) (f a : Expr) (st : State) → acting opts (app f a) ≡ None →
       emit (under outer (in_scope opts p k h (app f a))) st
       ≡ close_if (ltb 1023 outer) (put_nest opts.indent (put_group (emit (app_part opts p k h (app f a)) (open_if (ltb 1023 outer) st))))
   unfolding in_scope rename app_part
-  app_prints outer f a st =
+  app_prints outer f a st e =
       let ns : NamesInForce = names_of p k in
       let f' : Expr = rename (place_in k h) f in
       let a' : Expr = rename (place_in k h) a in
-      ap (λ (q : Parenable). emit (under outer q) st) (prints_app opts ns f' a' ∙ app_is_spine (expr_par opts ns) opts f' a')
+      ap (λ (q : Parenable). emit (under outer q) st) (idle_prints opts p k h f a e ∙ app_is_spine (expr_par opts ns) opts f' a')
       ∙ under_emits outer (with_inner 1023 (NG opts.indent (spine_doc (expr_par opts ns) (app f' a')))) st
       ∙ wrapped opts (spine_doc (expr_par opts ns) (app f' a')) (ltb 1023 outer) st
 

@@ -10,11 +10,12 @@ use Rattle.pieces.specs.Docs.{◌⊹◌, quoted, G, with_inner, under, number_do
 use Rattle.names.specs.Names.{name_doc}
 use Rattle.levels.specs.Levels.{sort_doc}
 use Rattle.binders.specs.Binders.{Binder, binders, chain_body, pushed}
-use Rattle.pretty_printer.specs.Exprs.{app_head, app_args, app_par, chain_par, let_par, expr_par_to, expr_par}
+use Rattle.binders.specs.Operators.{head_operator}
+use Rattle.pretty_printer.specs.Exprs.{app_head, app_args, applied_par, chain_par, let_par, expr_par_to, expr_par}
 use Rattle.binders.specs.Variables.{var_doc}
 use Rattle.binders.proofs.RunLaws.{All}
 use Rattle.pretty_printer.proofs.BoundLaws.{bound_does_not_matter, head_depth, args_depth, body_depth, types_depth, all_one, all_map, Within, TypeWithin, Agree}
-use Rattle.pretty_printer.proofs.BoundLaws.{app_agrees, chain_agrees}
+use Rattle.pretty_printer.proofs.BoundLaws.{applied_agrees, chain_agrees}
 use Rattle.binders.specs.Options.{PpOptions}
 use Rattle.binders.specs.Shown.{NamesInForce}
 
@@ -48,11 +49,12 @@ module _ (opts : PpOptions) (ns : NamesInForce) where
   unfolding expr_par expr_par_to depth
   prints_proj n i e = refl
 
-  pub prints_app : (f a : Expr) → expr_par opts ns (app f a) ≡ app_par opts (expr_par opts ns) (app_head f) (app_args f (a ∷ []))
+  pub prints_app : (f a : Expr) → expr_par opts ns (app f a)
+      ≡ applied_par opts (expr_par opts ns) (head_operator opts f) (app_head f) (app_args f (a ∷ []))
   unfolding expr_par expr_par_to depth
   prints_app f a =
       let d : ℕ = max (depth f) (depth a) in
-      app_agrees opts (expr_par_to opts d ns) (expr_par opts ns) (app_head f) (app_args f (a ∷ []))
+      applied_agrees opts (expr_par_to opts d ns) (expr_par opts ns) (head_operator opts f) (app_head f) (app_args f (a ∷ []))
       (at_depth d (app_head f) (omega (arith, head_depth f)))
       (all_map (Within d) (λ x. expr_par_to opts d ns x ≡ expr_par opts ns x) (λ x h. at_depth d x h) (app_args f (a ∷ []))
       (args_depth d f (a ∷ []) (omega arith) (all_one (Within d) a (omega arith))))

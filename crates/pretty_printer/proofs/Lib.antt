@@ -4,11 +4,13 @@ pub mod ChainLaws
 pub mod TelescopeLaws
 pub mod PartLaws
 pub mod EmitLaws
+pub mod OperatorLaws
 pub mod CallLaws
 pub mod RowWords
 pub mod RowLaws
 pub mod SinkLaws
 pub mod SpineRows
+pub mod OperatorRows
 pub mod ChainRows
 pub mod GroupRows
 pub mod Printing

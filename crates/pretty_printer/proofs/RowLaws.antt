@@ -9,7 +9,8 @@ use Rattle.pool.specs.Sound.{Sound}
 use Rattle.pool.specs.Tree.{Expr, var, sort, const, app, pi, lam, letᵉ, proj, nat, str, depth}
 use Rattle.pool.specs.Unfold.{name_at, expr_at}
 use Rattle.pool.proofs.ExprUnfolds.{var_at, app_at, let_at, proj_at, label_word, depth-word, depth_small}
-use Rattle.std.specs.Prelude.{is_none}
+use Rattle.std.specs.Prelude.{None, is_none}
+use Rattle.binders.specs.Acting.{acting}
 use Rattle.document.specs.Sink.{State, written_of, put_join, put_nest, put_group, put_names, emit}
 use Rattle.pieces.specs.Docs.{under}
 use Rattle.names.specs.Names.{name_doc}
@@ -95,10 +96,12 @@ module _ (q : Printer) {k : Stack} {h r : ℕ} (a : Asked (pool_of q) k h r) whe
       (proj_prints opts p k h 1024 (name_at p (w 1)) (w 2) (expr_at p (w 3)) st (omega arith)
       ∙ sym (proj_prints opts p k h outer (name_at p (w 1)) (w 2) (expr_at p (w 3)) st l))
 
-  pub app_row : (outer : ℕ) (st : State) → w 0 ≡ 3 →
+  pub app_row : (outer : ℕ) (st : State) → w 0 ≡ 3 → acting opts (expr_at p r) ≡ None →
       close_if (ltb 1023 outer) (put_nest opts.indent (put_group (emit (app_part opts p k h (expr_at p r)) (open_if (ltb 1023 outer) st))))
       ≡ emit (under outer (in_scope opts p k h (expr_at p r))) st
-  app_row outer st e = rw (app_at p sound r a.row e) (sym (app_prints opts p k h outer (expr_at p (w 1)) (expr_at p (w 2)) st))
+  app_row outer st e n =
+      rw (app_at p sound r a.row e)
+      (sym (app_prints opts p k h outer (expr_at p (w 1)) (expr_at p (w 2)) st (sym (ap (acting opts) (app_at p sound r a.row e)) ∙ n)))
 
   pub head_row : (st : State) → (w 0 ≡ 3 → ⊥) → put_group (emit (under 1023 (in_scope opts p k h (expr_at p r))) st) ≡ emit (app_part opts p k h (expr_at p r)) st
   head_row st n = sym (head_prints opts p k h (expr_at p r) st (λ e. n (sym (label_word p sound r a.row) ∙ e)))

@@ -14,6 +14,8 @@ use Rattle.pieces.specs.Parens.{open_if, close_if}
 use Rattle.pieces.specs.Tiles.{end_tile}
 use Rattle.binders.specs.declared.printer.Printer.{Printer}
 use Rattle.binders.specs.declared.stack.Stack.{Stack}
+use Rattle.std.specs.Prelude.{None}
+use Rattle.binders.specs.Acting.{acting}
 use Rattle.binders.specs.Asked.{Asked}
 use Rattle.binders.specs.Options.{PpOptions, options_of, pool_of}
 use Rattle.binders.specs.Spines.{drop_arguments, SpineOf}
@@ -44,9 +46,9 @@ module _ (q : Printer) {k : Stack} {h r : ℕ} (a : Asked (pool_of q) k h r) {ar
   spine_argument n left x st m l e = rw (m, e, i.argument left l) (sym (spine_prints opts p k h _ _ st))
 
   -- where no argument is left
-  pub spine_whole : (n outer : ℕ) (st : State) → n ≤ 0 → expr_word p.words r 0 ≡ 3 →
+  pub spine_whole : (n outer : ℕ) (st : State) → n ≤ 0 → expr_word p.words r 0 ≡ 3 → acting opts (expr_at p r) ≡ None →
       close_if (ltb 1023 outer)
       (put_nest opts.indent (put_group (emit (app_part opts p k h (drop_arguments n (expr_at p r))) (open_if (ltb 1023 outer) st))))
       ≡ emit (under outer (in_scope opts p k h (expr_at p r))) st
   unfolding drop_arguments
-  spine_whole n outer st none e = let z : n ≡ 0 = omega arith in rw z (app_row q a outer st e)
+  spine_whole n outer st none e idle = let z : n ≡ 0 = omega arith in rw z (app_row q a outer st e idle)

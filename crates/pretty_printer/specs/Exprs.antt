@@ -1,12 +1,15 @@
--- 01, Expressions to documents.
-use Rattle.std.specs.Prelude.{ℕ, zero, suc, ◌+◌, List, [], ◌∷◌, map, length}
+-- 01, Expressions to documents; with the operators of document 02, P5.
+use Rattle.std.specs.Prelude.{ℕ, zero, suc, ◌+◌, List, [], ◌∷◌, map, length, Option, None, Some}
 use Rattle.document.specs.Walk.{Marked, textᵐ, names}
+use Rattle.pool.specs.Kinds.{NotationKind, prefixᵏ, infixᵏ, postfixᵏ, noNotationᵏ}
+use Rattle.pool.specs.Notation.{Operator}
 use Rattle.pool.specs.Tree.{Name, Expr, var, sort, const, app, pi, lam, letᵉ, proj, nat, str, depth}
 use Rattle.pieces.specs.Docs.{◌⊹◌, quoted, line, G, NG, Parenable, with_inner, under, tile, number_doc}
 use Rattle.names.specs.Names.{name_doc}
 use Rattle.levels.specs.Levels.{sort_doc}
 use Rattle.binders.specs.Variables.{var_doc}
 use Rattle.binders.specs.Binders.{Binder, binders, chain_body, pushed, in_force, binders_par}
+use Rattle.binders.specs.Operators.{head_operator, prefix_par, postfix_par, infix_par}
 use Rattle.binders.specs.Options.{PpOptions}
 use Rattle.binders.specs.Shown.{shown, NamesInForce}
 
@@ -41,6 +44,26 @@ module _ (opts : PpOptions) where
   app_par pp head args =
       with_inner 1023 (NG opts.indent (tile (G (under 1023 (pp head)) ∷ map (λ a. G (under 1024 (pp a))) args)))
 
+  -- "It acts on a constant of that name (equal name trees) applied to exactly one argument, or two for infix.": on others the application prints
+  -- as it would without an operator
+  unfoldable pub operator_par : (Expr → Parenable) → Operator → NotationKind → Expr → List Expr → Parenable
+  operator_par pp o prefixᵏ head [] = app_par pp head []
+  operator_par pp o prefixᵏ head (x ∷ []) = prefix_par opts o (pp x)
+  operator_par pp o prefixᵏ head (x ∷ y ∷ more) = app_par pp head (x ∷ y ∷ more)
+  operator_par pp o infixᵏ head [] = app_par pp head []
+  operator_par pp o infixᵏ head (x ∷ []) = app_par pp head (x ∷ [])
+  operator_par pp o infixᵏ head (x ∷ y ∷ []) = infix_par opts o (pp x) (pp y)
+  operator_par pp o infixᵏ head (x ∷ y ∷ z ∷ more) = app_par pp head (x ∷ y ∷ z ∷ more)
+  operator_par pp o postfixᵏ head [] = app_par pp head []
+  operator_par pp o postfixᵏ head (x ∷ []) = postfix_par opts o (pp x)
+  operator_par pp o postfixᵏ head (x ∷ y ∷ more) = app_par pp head (x ∷ y ∷ more)
+  operator_par pp o noNotationᵏ head args = app_par pp head args
+
+  -- an application whose head has an operator, or none
+  unfoldable pub applied_par : (Expr → Parenable) → Option Operator → Expr → List Expr → Parenable
+  applied_par pp None head args = app_par pp head args
+  applied_par pp (Some o) head args = operator_par pp o o.kind head args
+
   -- a chain, whose `bs` are its binders: their names are in force from before its first row
   unfoldable pub chain_par : (Expr → Parenable) → List Binder → ℕ → Expr → Parenable
   chain_par pp bs outside body =
@@ -71,7 +94,7 @@ module _ (opts : PpOptions) where
   expr_par_to (suc k) ns (var i) = with_inner 1024 (var_doc ns i i)
   expr_par_to (suc k) ns (sort l) = with_inner 1024 (sort_doc l)
   expr_par_to (suc k) ns (const n ls) = with_inner 1024 (quoted "@" ⊹ name_doc n)
-  expr_par_to (suc k) ns (app f a) = app_par (expr_par_to k ns) (app_head f) (app_args f (a ∷ []))
+  expr_par_to (suc k) ns (app f a) = applied_par (expr_par_to k ns) (head_operator opts f) (app_head f) (app_args f (a ∷ []))
   expr_par_to (suc k) ns (pi p n s t b) =
       let bs : List Binder = binders (pi p n s t b) in chain_par (expr_par_to k (pushed bs ns)) bs (length ns) (chain_body b)
   expr_par_to (suc k) ns (lam p n s t b) =

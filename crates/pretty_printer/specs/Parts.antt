@@ -1,8 +1,9 @@
 -- What each printer of the call cycle puts, in the terms of the stack, the scope and the row's tree.
-use Rattle.std.specs.Prelude.{ℕ, ◌+◌, Bool, true, false, ◌∷◌, map, take}
+use Rattle.std.specs.Prelude.{ℕ, ◌+◌, ◌<◌, Bool, true, false, ◌∷◌, Some, ◌≡◌, map, take}
 use Rattle.document.specs.Walk.{Marked}
 use Rattle.document.specs.Sink.{State, put_names, emit}
-use Rattle.pool.specs.Tables.{Pool}
+use Rattle.pool.specs.Notation.{operator_at}
+use Rattle.pool.specs.Tables.{Pool, T, expr_word}
 use Rattle.pool.specs.Unfold.{expr_at}
 use Rattle.pool.specs.Tree.{Name, Expr}
 use Rattle.pieces.specs.Docs.{Parenable, under}
@@ -16,8 +17,15 @@ use Rattle.binders.specs.Rename.{up, rename}
 use Rattle.binders.specs.Scopes.{names_of, place_in, scoped, last_scope}
 use Rattle.binders.specs.Steps.{spine_doc, first_binder}
 use Rattle.pieces.specs.Puts.{put_colon, put_arrow, start_run, end_run, start_let, put_assign, end_let}
+use Rattle.binders.specs.Acting.{acting}
 use Rattle.binders.specs.Options.{PpOptions}
 use Rattle.binders.specs.Shown.{shown}
+
+-- the operator of a notation row acts on the application at row r
+pub record Operated (opts : PpOptions) (p : Pool) (r row : ℕ) : Type 0 where
+  pub is_app : expr_word p.words r 0 ≡ 3
+  pub there : row < T p.words
+  pub acts : acting opts (expr_at p r) ≡ Some (operator_at p row)
 
 -- ---- parts
 

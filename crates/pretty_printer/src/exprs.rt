@@ -1,8 +1,12 @@
 // Expressions: one call cycle. Each call goes to a lower row, or on the same row from what follows a part of a chain to a part or an
 // expression, from an expression to a chain, from a chain to its parts, and from a part to its groups. The stack of names goes by
-// value, but to `pp_part` and `pp_inside`: these are inlined, and stand in no frame that would hold a copy.
+// value, but to `pp_part`, `pp_inside` and the parts of `pp_operator`: these are inlined, and stand in no frame that would hold a copy.
 ghost use Rattle.std.specs.Prelude.{◌≡◌, true, ◌<◌, ◌≤◌};
-ghost use Rattle.pool.specs.Tables.{expr_word};
+ghost use Rattle.document.specs.Walk.{textᵐ};
+ghost use Rattle.pool.specs.Notation.{operator_at};
+ghost use Rattle.pool.specs.Tables.{T, expr_word, notation_word};
+ghost use Rattle.std.specs.Prelude.{None};
+ghost use Rattle.binders.specs.Acting.{acting};
 ghost use Rattle.binders.specs.Options.{options_of, pool_of};
 ghost use Rattle.pool.specs.Unfold.{name_at, expr_at};
 ghost use Rattle.document.specs.Leaves.{Leaves};
@@ -10,28 +14,31 @@ ghost use Rattle.document.specs.Sink.{emit};
 ghost use Rattle.pieces.specs.Docs.{under};
 ghost use Rattle.binders.specs.Asked.{Asked, InChain};
 ghost use Rattle.binders.specs.Steps.{binder_kind, chain_length, first_binder};
-ghost use Rattle.pretty_printer.specs.Parts.{row_in, chain_part, run_part, groups_part, let_head, let_body};
+ghost use Rattle.pretty_printer.specs.Parts.{Operated, row_in, chain_part, run_part, groups_part, let_head, let_body};
 
 use binders::chain::{chain_length, is_binder_at, push_chain};
 use binders::group::{group_end, pp_names};
 use binders::leaves::{is_leaf_at, pp_leaf};
+use binders::operators::acting;
 use binders::printer::Printer;
 use binders::runs::{is_arrow, is_pi, level_of, part_end};
 use binders::spine::spine_of;
 use binders::stack::Stack;
 use binders::vars::pp_bvar;
 use document::sink::Sink;
+use names::literals::pp_raw;
 use names::names::pp_name_safe;
 use pieces::parens::{close_paren, open_paren};
 use pieces::puts::{
     close_group, end_app, end_argument, end_let, end_proj, end_run, open_group, put_arrow,
     put_assign, put_colon, start_let, start_run,
 };
+use pieces::words::join_zero_width_line;
 use pool::fields::{
-    BINDER_STYLE, BINDER_TYPE, LET_BODY, LET_NAME, LET_TYPE, LET_VALUE, PROJ_INDEX, PROJ_STRUCTURE,
-    VAR_INDEX,
+    APP_ARGUMENT, APP_FUNCTION, BINDER_STYLE, BINDER_TYPE, LET_BODY, LET_NAME, LET_TYPE, LET_VALUE,
+    NOTATION_PRIORITY, NOTATION_STRING, PROJ_INDEX, PROJ_STRUCTURE, VAR_INDEX,
 };
-use pool::kinds::ExprKind;
+use pool::kinds::{ExprKind, NotationKind};
 
 // The expression at row r, in a scope of the stack, under a level.
 #[cycle(exprs)]
@@ -44,7 +51,12 @@ pub fn pp_expr(p: &Printer<'_>, sink: &mut Sink<'_>, k: Stack, scope: usize, r: 
     }
     match p.pool.words.expr_kind(r) {
         Some(ExprKind::Var) => pp_bvar(p, sink, k, scope, p.pool.words.expr(r, VAR_INDEX)),
-        Some(ExprKind::App) => pp_app(p, sink, k, scope, r, outer),
+        Some(ExprKind::App) => {
+            if let Some(row) = acting(p, r) {
+                return pp_operator(p, sink, k, scope, r, row, outer);
+            }
+            pp_app(p, sink, k, scope, r, outer)
+        }
         Some(ExprKind::Pi | ExprKind::Lambda) => pp_chain(p, sink, k, scope, r, outer),
         Some(ExprKind::Let) => pp_let(p, sink, k, scope, r, outer),
         Some(ExprKind::Proj) => {
@@ -69,11 +81,12 @@ fn pp_inside(p: &Printer<'_>, sink: &mut Sink<'_>, k: &Stack, scope: usize, r: u
     pp_expr(p, sink, *k, scope, r, outer)
 }
 
-// An application: its head and its arguments, tiled.
+// An application on which no operator acts: its head and its arguments, tiled.
 #[cycle(exprs)]
 fn pp_app(p: &Printer<'_>, sink: &mut Sink<'_>, k: Stack, scope: usize, r: usize, outer: usize)
     requires { (Asked (pool_of p.now) k scope r) × (outer ≤ 1024)
-        × (expr_word (pool_of p.now).words r 0 ≡ 3) }
+        × (expr_word (pool_of p.now).words r 0 ≡ 3)
+        × (acting (options_of p.now) (expr_at (pool_of p.now) r) ≡ None) }
     ensures { Leaves sink.old sink.new (emit (under outer (row_in (options_of p.now) (pool_of p.now) k scope r))) }
 {
     let wrapped = outer > 1023;
@@ -87,6 +100,139 @@ fn pp_app(p: &Printer<'_>, sink: &mut Sink<'_>, k: Stack, scope: usize, r: usize
         end_argument(sink);
     }
     end_app(sink, p.indent, wrapped)
+}
+
+// An application on which the operator of a notation row acts.
+#[cycle(exprs)]
+fn pp_operator(
+    p: &Printer<'_>,
+    sink: &mut Sink<'_>,
+    k: Stack,
+    scope: usize,
+    r: usize,
+    row: usize,
+    outer: usize,
+)
+    requires { (Asked (pool_of p.now) k scope r) × (Operated (options_of p.now) (pool_of p.now) r row) }
+    ensures { Leaves sink.old sink.new (emit (under outer (row_in (options_of p.now) (pool_of p.now) k scope r))) }
+{
+    let priority = p.pool.words.notation(row, NOTATION_PRIORITY);
+    let wrapped = outer > priority - 1;
+    open_paren(sink, wrapped);
+    pp_operands(p, sink, &k, scope, r, row, priority);
+    close_paren(sink, wrapped)
+}
+
+// What stands inside its parentheses, by the kind of the row.
+#[inline(always)]
+#[cycle(exprs)]
+fn pp_operands(
+    p: &Printer<'_>,
+    sink: &mut Sink<'_>,
+    k: &Stack,
+    scope: usize,
+    r: usize,
+    row: usize,
+    priority: usize,
+)
+    requires { (Asked (pool_of p.now) k.now scope r) × (Operated (options_of p.now) (pool_of p.now) r row)
+        × (priority ≡ notation_word (pool_of p.now).words row 2) }
+    ensures { Leaves sink.old sink.new (emit (row_in (options_of p.now) (pool_of p.now) k.now scope r).doc) }
+{
+    match p.pool.words.notation_kind(row) {
+        Some(NotationKind::Prefix) => pp_prefix(p, sink, k, scope, r, row, priority),
+        Some(NotationKind::Infix) => pp_infix(p, sink, k, scope, r, row, priority),
+        Some(NotationKind::Postfix) => pp_postfix(p, sink, k, scope, r, row, priority),
+        // Never, since a checked row has a kind.
+        None => {}
+    }
+}
+
+// The string of a notation row.
+#[tactic(auto, unfolding(pool::specs::Notation::operator_at))]
+fn pp_sign(p: &Printer<'_>, sink: &mut Sink<'_>, row: usize)
+    requires { row < T (pool_of p.now).words }
+    ensures { Leaves sink.old sink.new (emit (textᵐ (operator_at (pool_of p.now) row).string)) }
+{
+    let string = p.pool.words.notation(row, NOTATION_STRING);
+    pp_raw(&p.pool, sink, string)
+}
+
+// The string, an empty break, and the operand.
+#[inline(always)]
+#[cycle(exprs)]
+fn pp_prefix(
+    p: &Printer<'_>,
+    sink: &mut Sink<'_>,
+    k: &Stack,
+    scope: usize,
+    r: usize,
+    row: usize,
+    priority: usize,
+)
+    requires { (Asked (pool_of p.now) k.now scope r) × (Operated (options_of p.now) (pool_of p.now) r row)
+        × (priority ≡ notation_word (pool_of p.now).words row 2) × (notation_word (pool_of p.now).words row 1 ≡ 0) }
+    ensures { Leaves sink.old sink.new (emit (row_in (options_of p.now) (pool_of p.now) k.now scope r).doc) }
+{
+    pp_sign(p, sink, row);
+    join_zero_width_line(sink);
+    sink.put_group();
+    let operand = p.pool.words.expr(r, APP_ARGUMENT);
+    pp_inside(p, sink, k, scope, operand, priority);
+    sink.put_join()
+}
+
+// The first operand, the string, an empty break, and the second operand.
+#[inline(always)]
+#[cycle(exprs)]
+fn pp_infix(
+    p: &Printer<'_>,
+    sink: &mut Sink<'_>,
+    k: &Stack,
+    scope: usize,
+    r: usize,
+    row: usize,
+    priority: usize,
+)
+    requires { (Asked (pool_of p.now) k.now scope r) × (Operated (options_of p.now) (pool_of p.now) r row)
+        × (priority ≡ notation_word (pool_of p.now).words row 2) × (notation_word (pool_of p.now).words row 1 ≡ 1) }
+    ensures { Leaves sink.old sink.new (emit (row_in (options_of p.now) (pool_of p.now) k.now scope r).doc) }
+{
+    let function = p.pool.words.expr(r, APP_FUNCTION);
+    let left = p.pool.words.expr(function, APP_ARGUMENT);
+    pp_inside(p, sink, k, scope, left, priority);
+    pp_sign(p, sink, row);
+    sink.put_join();
+    join_zero_width_line(sink);
+    let right = p.pool.words.expr(r, APP_ARGUMENT);
+    pp_inside(p, sink, k, scope, right, priority);
+    sink.put_join();
+    sink.put_group();
+    sink.put_nest(p.indent)
+}
+
+// The operand, an empty break, and the string.
+#[inline(always)]
+#[cycle(exprs)]
+fn pp_postfix(
+    p: &Printer<'_>,
+    sink: &mut Sink<'_>,
+    k: &Stack,
+    scope: usize,
+    r: usize,
+    row: usize,
+    priority: usize,
+)
+    requires { (Asked (pool_of p.now) k.now scope r) × (Operated (options_of p.now) (pool_of p.now) r row)
+        × (priority ≡ notation_word (pool_of p.now).words row 2) × (notation_word (pool_of p.now).words row 1 ≡ 2) }
+    ensures { Leaves sink.old sink.new (emit (row_in (options_of p.now) (pool_of p.now) k.now scope r).doc) }
+{
+    let operand = p.pool.words.expr(r, APP_ARGUMENT);
+    pp_inside(p, sink, k, scope, operand, priority);
+    join_zero_width_line(sink);
+    pp_sign(p, sink, row);
+    sink.put_join();
+    sink.put_group()
 }
 
 // A let.

@@ -14,6 +14,7 @@ fn of_pool(error: PoolError) -> Reply {
         PoolError::Limit => record::refused(2, 0),
         PoolError::Strings { row } => record::refused(3, row),
         PoolError::Rows { row } => record::refused(4, row),
+        PoolError::Notation => record::refused(31, 0),
     }
 }
 

@@ -20,7 +20,7 @@ rows =
 
 -- the strings "w" and "xyz", and one name of a kind
 named : ℕ → Source
-named kind = record { bytes = bytes "wxyz"; words = 2 ∷ 1 ∷ 0 ∷ 0 ∷ 0 ∷ 0 ∷ 0 ∷ 0 ∷ 1 ∷ 1 ∷ 3 ∷ kind ∷ 0 ∷ 0 ∷ 0 ∷ [] }
+named kind = record { bytes = bytes "wxyz"; words = 2 ∷ 1 ∷ 0 ∷ 0 ∷ 0 ∷ 0 ∷ 0 ∷ 0 ∷ 0 ∷ 1 ∷ 1 ∷ 3 ∷ kind ∷ 0 ∷ 0 ∷ 0 ∷ [] }
 
 -- offset, length and bytes of a part, with these counts of rows and text bytes and this kind of name
 handed : ℕ → ℕ → ℕ → Handed → List ℕ

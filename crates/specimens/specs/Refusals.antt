@@ -1,4 +1,4 @@
--- 01, From the input: the numbers 1 to 9 with their places, computed by the definitions.
+-- 01, From the input: the numbers 1 to 9 with their places, and 31 of document 02, P5, computed by the definitions.
 use Rattle.std.specs.Prelude.{ℕ, zero, suc, ◌+◌, ◌-◌, List, [], ◌∷◌, ◌++◌, ◌≡◌, refl, replicate}
 use Rattle.layout.specs.Call as layout
 use Rattle.lister.specs.Answers.{number, place}
@@ -27,9 +27,13 @@ prints bytes words root indent width =
 first : List ℕ → List ℕ → List (List ℕ)
 first bytes words = prints bytes words 0 2 80
 
--- a head of seven counts, and rows
+-- a head of eight counts, the last 0, and rows
 abbrev pub pool : ℕ → ℕ → ℕ → ℕ → ℕ → ℕ → ℕ → List ℕ → List ℕ
-pool S N L K Q E D rows = S ∷ N ∷ L ∷ K ∷ Q ∷ E ∷ D ∷ rows
+pool S N L K Q E D rows = S ∷ N ∷ L ∷ K ∷ Q ∷ E ∷ D ∷ 0 ∷ rows
+
+-- an empty string, two names of a kind with no more words, and so many notation rows
+noted : ℕ → ℕ → List ℕ → List ℕ
+noted kind T rows = 1 ∷ 2 ∷ 0 ∷ 0 ∷ 0 ∷ 0 ∷ 0 ∷ T ∷ 0 ∷ 0 ∷ kind ∷ 0 ∷ 0 ∷ 0 ∷ kind ∷ 0 ∷ 0 ∷ 0 ∷ rows
 
 -- an anonymous name, an empty list, the variable 0, an axiom of that type
 small : List ℕ
@@ -74,10 +78,11 @@ laid rows count width =
 pub refused : List (List (List ℕ))
 refused =
     -- 1: words short of the head; one word more than the total
-    first [] (replicate 6 0)
-    ∷ first [] (replicate 8 0)
-    -- 2: 65,537 list words
+    first [] (replicate 7 0)
+    ∷ first [] (replicate 9 0)
+    -- 2: 65,537 list words; 65,537 notation rows
     ∷ first [] (pool 0 0 0 0 65537 0 0 (replicate 65537 0))
+    ∷ first [] (0 ∷ 0 ∷ 0 ∷ 0 ∷ 0 ∷ 0 ∷ 0 ∷ 65537 ∷ replicate 262148 0)
     -- 3: an empty pair past the end; a second pair that is not UTF-8; a second offset that falls
     ∷ first [] (pool 1 0 0 0 0 0 0 (1 ∷ 0 ∷ []))
     ∷ first (97 ∷ 128 ∷ []) (pool 2 0 0 0 0 0 0 (0 ∷ 1 ∷ 1 ∷ 1 ∷ []))
@@ -90,7 +95,16 @@ refused =
     ∷ first [] (pool 0 0 1 0 2 0 0 (0 ∷ 0 ∷ 0 ∷ 0 ∷ 1 ∷ []))
     ∷ first [] (pool 0 0 0 0 0 1 0 (10 ∷ 0 ∷ 0 ∷ 0 ∷ 0 ∷ 0 ∷ 1 ∷ 0 ∷ []))
     ∷ first [] (pool 0 0 0 0 0 0 1 (0 ∷ 0 ∷ 0 ∷ 0 ∷ 0 ∷ []))
-    -- 5: no such root; 5 before 6
+    -- 31: a notation row with no name, no kind, the priority 0 or 1,024, no string; a name tree given twice, by two rows; 4 before 31
+    ∷ first [] (noted 0 1 (2 ∷ 0 ∷ 1 ∷ 0 ∷ []))
+    ∷ first [] (noted 0 1 (0 ∷ 3 ∷ 1 ∷ 0 ∷ []))
+    ∷ first [] (noted 0 1 (0 ∷ 0 ∷ 0 ∷ 0 ∷ []))
+    ∷ first [] (noted 0 1 (0 ∷ 0 ∷ 1024 ∷ 0 ∷ []))
+    ∷ first [] (noted 0 1 (0 ∷ 0 ∷ 1 ∷ 1 ∷ []))
+    ∷ first [] (noted 0 2 (0 ∷ 0 ∷ 1 ∷ 0 ∷ 1 ∷ 2 ∷ 1023 ∷ 0 ∷ []))
+    ∷ first [] (noted 3 1 (2 ∷ 0 ∷ 1 ∷ 0 ∷ []))
+    -- 5: no such root, where a notation row is right; 5 before 6
+    ∷ first [] (noted 0 1 (1 ∷ 2 ∷ 1023 ∷ 0 ∷ []))
     ∷ prints [] small 1 2 80
     ∷ prints [] small 1 65 65536
     -- 6: indent over 64; width over 65,535
@@ -113,11 +127,12 @@ both n at = (n ∷ at ∷ []) ∷ (n ∷ at ∷ []) ∷ []
 
 pub expected : List (List (List ℕ))
 expected =
-    both 1 0 ∷ both 1 0 ∷ both 2 0 ∷ both 3 0 ∷ both 3 1 ∷ both 3 1 ∷ both 4 0 ∷ both 4 1 ∷ both 4 0 ∷ both 4 1 ∷ both 4 0 ∷ both 4 0
-    ∷ both 5 0 ∷ both 5 0 ∷ both 6 0 ∷ both 6 0 ∷ []
+    both 1 0 ∷ both 1 0 ∷ both 2 0 ∷ both 2 0 ∷ both 3 0 ∷ both 3 1 ∷ both 3 1 ∷ both 4 0 ∷ both 4 1 ∷ both 4 0 ∷ both 4 1 ∷ both 4 0 ∷ both 4 0
+    ∷ both 31 0 ∷ both 31 0 ∷ both 31 0 ∷ both 31 0 ∷ both 31 0 ∷ both 31 0 ∷ both 4 0
+    ∷ both 5 0 ∷ both 5 0 ∷ both 5 0 ∷ both 6 0 ∷ both 6 0 ∷ []
 
 pub refusals_are : refused ≡ expected
-unfolding computing none report prints first small refused both expected
+unfolding computing none report prints first small noted refused both expected
 refusals_are = refl
 
 -- 7: the last of 32 chains brings the stack to 1,056, whatever its row

@@ -1,4 +1,5 @@
--- 01, Specimens: the starred ones, "proved together, as a list with one result about the definitions"; among the names those of 02, P1.
+-- 01, Specimens: the starred ones, "proved together, as a list with one result about the definitions"; among the names those of 02, P1, and
+-- `Prop` of 02, P5.
 use Rattle.std.specs.Prelude.{ℕ, List, [], ◌∷◌, ◌≡◌, refl, length}
 use Prim.Native.String.{String}
 use Rattle.utf8.specs.Quoted.{bytes}
@@ -6,7 +7,7 @@ use Rattle.document.specs.Doc.{row_count, text_bytes}
 use Rattle.document.specs.Walk.{Marked, unmarked}
 use Rattle.layout.specs.Layout.{pieces}
 use Rattle.layout.specs.Listing.{bytes_of, longest_row}
-use Rattle.pool.specs.Tree.{Name, anonymous, string, number, Level, paramˡ, Expr, var, sort, const, app, pi, lam, valued}
+use Rattle.pool.specs.Tree.{Name, anonymous, string, number, Level, zeroˡ, maxˡ, paramˡ, Expr, var, sort, const, app, pi, lam, valued}
 use Rattle.names.specs.Names.{name_doc}
 use Rattle.binders.specs.Options.{indented}
 use Rattle.pretty_printer.specs.Exprs.{expr_doc}
@@ -14,18 +15,18 @@ use Rattle.declarations.specs.Declars.{declar_doc}
 use Rattle.specimens.specs.Computing.{computing}
 
 -- the listing of a document at a width
-listing : ℕ → Marked → List ℕ
+unfoldable pub listing : ℕ → Marked → List ℕ
 listing width m = bytes_of (pieces width (unmarked m))
 
 -- document rows, text bytes, listing length, longest row
-counts : ℕ → Marked → List ℕ
+unfoldable pub counts : ℕ → Marked → List ℕ
 counts width m =
     row_count (unmarked m) ∷ length (text_bytes (unmarked m)) ∷ length (listing width m) ∷ longest_row 0 (pieces width (unmarked m)) ∷ []
 
-name : String → Name
+unfoldable pub name : String → Name
 name s = string anonymous (bytes s)
 
-constant : String → Expr
+unfoldable pub constant : String → Expr
 constant s = const (name s) []
 
 -- a default pi and a default lambda
@@ -66,6 +67,8 @@ printed =
     ∷ listing 13 nat_to_nat
     ∷ counts 12 nat_to_nat
     ∷ listing 12 nat_to_nat
+    ∷ expr (sort zeroˡ)
+    ∷ expr (sort (maxˡ zeroˡ zeroˡ))
     ∷ expr (fun "a" (constant "A") (fun "b" (constant "B") (fun "c" (constant "A") (fun "d" (constant "A") (var 0)))))
     ∷ k (fun "a" (sort u) (var 0))
     ∷ k (constant "c")
@@ -96,6 +99,8 @@ expected =
     ∷ bytes "@Nat → @Nat"
     ∷ (17 ∷ 12 ∷ 13 ∷ 8 ∷ [])
     ∷ bytes "@Nat →\n@Nat"
+    ∷ bytes "Prop"
+    ∷ bytes "Sort (max 0 0)"
     ∷ bytes "fun (a : @A) (b : @B) (c d : @A) => d"
     ∷ bytes "def k.{u} (a : Sort u) : Sort u := a"
     ∷ bytes "def k.{u} : Sort u → Sort u := @c"

@@ -8,3 +8,4 @@ pub mod ThirdProperty
 pub mod SuccessLaws
 pub mod Decisions
 pub mod TwoRuns
+pub mod TwoOperators

@@ -33,7 +33,11 @@ use Rattle.binders.specs.Binders.{
   runs_par,
   binders_par,
 }
-use Rattle.pretty_printer.specs.Exprs.{app_head, app_args, app_par, chain_par, let_par, expr_par_to, expr_par, expr_doc}
+use Rattle.std.specs.Prelude.{Option, None, Some}
+use Rattle.pool.specs.Kinds.{NotationKind, prefixᵏ, infixᵏ, postfixᵏ, noNotationᵏ}
+use Rattle.pool.specs.Notation.{Operator}
+use Rattle.binders.specs.Operators.{head_operator, prefix_par, postfix_par, infix_par}
+use Rattle.pretty_printer.specs.Exprs.{app_head, app_args, app_par, operator_par, applied_par, chain_par, let_par, expr_par_to, expr_par, expr_doc}
 use Rattle.declarations.specs.Declars.{keyword, info, can_leave, taken, Taken, def_rest, main_def, axiom_rest, main_axiom, declar_doc}
 use Rattle.binders.specs.Options.{PpOptions}
 use Rattle.binders.specs.Shown.{NamesInForce}
@@ -309,7 +313,46 @@ module _ (opts : PpOptions) (pp : Expr → Parenable) (like : (e : Expr) → Ali
         inner = refl;
       }
 
+  alike_operator : (o : Operator) (k : NotationKind) (head : Expr) (args : List Expr)
+      → Alike (operator_par opts pp o k head args) (operator_par opts pp o k (forget head) (map forget args))
+  unfolding operator_par prefix_par infix_par postfix_par
+  alike_operator o prefixᵏ head [] = alike_app head []
+  alike_operator o prefixᵏ head (x ∷ []) = record { doc = like_join itself (like_under o.priority (like x)); inner = refl }
+  alike_operator o prefixᵏ head (x ∷ y ∷ more) = alike_app head (x ∷ y ∷ more)
+  alike_operator o infixᵏ head [] = alike_app head []
+  alike_operator o infixᵏ head (x ∷ []) = alike_app head (x ∷ [])
+  alike_operator o infixᵏ head (x ∷ y ∷ []) =
+      record {
+        doc = like_nest opts.indent (like_group (like_join (like_join (like_join (like_under o.priority (like x)) itself) itself) (like_under o.priority (like y))));
+        inner = refl;
+      }
+  alike_operator o infixᵏ head (x ∷ y ∷ z ∷ more) = alike_app head (x ∷ y ∷ z ∷ more)
+  alike_operator o postfixᵏ head [] = alike_app head []
+  alike_operator o postfixᵏ head (x ∷ []) =
+      record { doc = like_group (like_join (like_join (like_under o.priority (like x)) itself) itself); inner = refl }
+  alike_operator o postfixᵏ head (x ∷ y ∷ more) = alike_app head (x ∷ y ∷ more)
+  alike_operator o noNotationᵏ head args = alike_app head args
+
+  alike_applied : (o : Option Operator) (head : Expr) (args : List Expr)
+      → Alike (applied_par opts pp o head args) (applied_par opts pp o (forget head) (map forget args))
+  unfolding applied_par
+  alike_applied None head args = alike_app head args
+  alike_applied (Some o) head args = alike_operator o o.kind head args
+
 -- ---- expressions
+
+operator_forget : (opts : PpOptions) (e : Expr) → head_operator opts (forget e) ≡ head_operator opts e
+unfolding head_operator forget
+operator_forget opts (var i) = refl
+operator_forget opts (sort l) = refl
+operator_forget opts (const n ls) = refl
+operator_forget opts (app f a) = operator_forget opts f
+operator_forget opts (pi p n s t b) = refl
+operator_forget opts (lam p n s t b) = refl
+operator_forget opts (letᵉ p n t v b d) = refl
+operator_forget opts (proj n i e) = refl
+operator_forget opts (nat s) = refl
+operator_forget opts (str s) = refl
 
 head_forget : (e : Expr) → app_head (forget e) ≡ forget (app_head e)
 unfolding app_head forget
@@ -379,9 +422,12 @@ module _ (opts : PpOptions) where
   alike_to (suc k) ns (const n ls) = record { doc = itself; inner = refl }
   alike_to (suc k) ns (app f a) =
       let pp : Expr → Parenable = expr_par_to opts k ns in
-      subst (λ (x : Expr). Alike (app_par opts pp (app_head f) (app_args f (a ∷ []))) (app_par opts pp x (app_args (forget f) (forget a ∷ [])))) (sym (head_forget f))
-      (subst (λ (x : List Expr). Alike (app_par opts pp (app_head f) (app_args f (a ∷ []))) (app_par opts pp (forget (app_head f)) x)) (sym (args_forget f (a ∷ [])))
-      (alike_app opts pp (alike_to k ns) (app_head f) (app_args f (a ∷ []))))
+      let o : Option Operator = head_operator opts f in
+      let left : Parenable = applied_par opts pp o (app_head f) (app_args f (a ∷ [])) in
+      subst (λ (x : Option Operator). Alike left (applied_par opts pp x (app_head (forget f)) (app_args (forget f) (forget a ∷ [])))) (sym (operator_forget opts f))
+      (subst (λ (x : Expr). Alike left (applied_par opts pp o x (app_args (forget f) (forget a ∷ [])))) (sym (head_forget f))
+      (subst (λ (x : List Expr). Alike left (applied_par opts pp o (forget (app_head f)) x)) (sym (args_forget f (a ∷ [])))
+      (alike_applied opts pp (alike_to k ns) o (app_head f) (app_args f (a ∷ [])))))
   alike_to (suc k) ns (pi p n s t b) =
       chain_alike k (alike_to k) ns (binders (pi p n s t b)) (binders (pi 0 n s (forget t) (forget b))) (chain_body b) (chain_body (forget b)) (binders-forget (pi p n s t b)) (body_forget b)
   alike_to (suc k) ns (lam p n s t b) =

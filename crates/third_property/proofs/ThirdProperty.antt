@@ -3,7 +3,7 @@ use Prim.Native.Nat.{ℕ, suc, ◌-◌, ◌≤◌, ◌<◌}
 use native.Mathlib.Omega.{arith}
 use mathlib.Core.Bool.{Bool, true, false, ◌&&◌, cond}
 use mathlib.Core.List.{List, ◌++◌}
-use mathlib.Core.Path.{◌≡◌, refl, sym, ap, ap₂, ◌∙◌, subst}
+use mathlib.Core.Path.{◌≡◌, refl, sym, ap, ap₂, ◌∙◌, subst, fun_ext}
 use lib.Dec.{ltb, leb, eqb}
 use lib.ListN.{length, take, replicate}
 use borrow.Author.Tests.{lt-ltb, ltb-true, ltb-false, leb-true}
@@ -28,7 +28,12 @@ use Rattle.std.specs.Prelude.{Result, Ok, Err}
 use Rattle.pool_check.specs.declared.PoolError.{PoolError}
 use Rattle.pool.specs.Tables.{Pool, E, D}
 use Rattle.pool.specs.Unfold.{expr_at, declar_at}
-use Rattle.binders.specs.Options.{indented}
+use Rattle.std.specs.Prelude.{Option}
+use Rattle.pool.specs.Notation.{Operator, operator_of}
+use Rattle.pool.specs.Tree.{Name}
+use Rattle.binders.specs.Options.{PpOptions, options}
+use Rattle.pretty_printer.specs.Exprs.{expr_doc}
+use Rattle.declarations.specs.Declars.{declar_doc}
 use Rattle.declarations.proofs.FineLaws.{expr_fine, declar_fine}
 use Rattle.third_property.proofs.PlaceLaws.{Like, expr_like, declar_like}
 use Rattle.lister.specs.declared.error.PrintError.TheVariants.{Size, Names, Document, RowArea, TextArea, Listing}
@@ -76,13 +81,22 @@ call-done declaration s root indent width areas h = checked-done (judged s) (ltb
 
 root_fine : (k : Print) (indent : ℕ) (p : Pool) (root : ℕ) → indent ≤ 64 → Fine (unmarked (root_doc k indent p root))
 unfolding root_doc
-root_fine expression indent p root small = expr_fine (indented indent) small (expr_at p root)
-root_fine declaration indent p root small = declar_fine (indented indent) small (declar_at p root)
+root_fine expression indent p root small = expr_fine (options indent p) small (expr_at p root)
+root_fine declaration indent p root small = declar_fine (options indent p) small (declar_at p root)
 
-roots_like : (k : Print) (indent : ℕ) (p : Pool) (r : ℕ) (q : Pool) (s : ℕ) → SameTree k p r q s → Like (root_doc k indent p r) (root_doc k indent q s)
+-- what both pools print with, where they give the same operators to the same name trees
+same_options : (indent : ℕ) (p q : Pool) → ((name : Name) → operator_of p name ≡ operator_of q name) → options indent p ≡ options indent q
+same_options indent p q o = ap (λ (f : Name → Option Operator). record { indent = indent; operators = f }) (fun_ext o)
+
+roots_like : (k : Print) (indent : ℕ) (p : Pool) (r : ℕ) (q : Pool) (s : ℕ) → SameTree k p r q s → ((name : Name) → operator_of p name ≡ operator_of q name)
+    → Like (root_doc k indent p r) (root_doc k indent q s)
 unfolding root_doc SameTree
-roots_like expression indent p r q s h = expr_like (indented indent) (expr_at p r) (expr_at q s) h
-roots_like declaration indent p r q s h = declar_like (indented indent) (declar_at p r) (declar_at q s) h
+roots_like expression indent p r q s h o =
+    subst (λ (opts : PpOptions). Like (expr_doc (options indent p) (expr_at p r)) (expr_doc opts (expr_at q s))) (same_options indent p q o)
+    (expr_like (options indent p) (expr_at p r) (expr_at q s) h)
+roots_like declaration indent p r q s h o =
+    subst (λ (opts : PpOptions). Like (declar_doc (options indent p) (declar_at p r)) (declar_doc opts (declar_at q s))) (same_options indent p q o)
+    (declar_like (options indent p) (declar_at p r) (declar_at q s) h)
 
 small_indent : (indent width : ℕ) → sizes_ok indent width ≡ true → indent ≤ 64
 small_indent indent width e = by (leb indent 64) refl e
@@ -331,7 +345,7 @@ module _ {k : Print} (a b : Run k) (returned : Returned a) (returned' : Returned
   docs_like : Like (defined a) (defined b)
   docs_like =
       subst (λ (i : ℕ). Like (defined a) (root_doc k i (pool_of b.source) b.root)) taken.indent
-      (roots_like k a.indent (pool_of a.source) a.root (pool_of b.source) b.root taken.tree)
+      (roots_like k a.indent (pool_of a.source) a.root (pool_of b.source) b.root taken.tree taken.operators)
 
   same_doc : unmarked (defined a) ≡ unmarked (defined b)
   same_doc = plain_like (defined a) (defined b) docs_like

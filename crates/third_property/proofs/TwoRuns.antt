@@ -19,12 +19,12 @@ use Rattle.specimens.specs.Refusals.{chains, pis, over_pis, report, walked, name
 
 -- an anonymous name; the variable 5, and the pi over it and to it
 abbrev pub words : List ℕ
-words = 0 ∷ 1 ∷ 0 ∷ 0 ∷ 0 ∷ 2 ∷ 0 ∷ 0 ∷ 0 ∷ 0 ∷ 0 ∷ 0 ∷ 5 ∷ 0 ∷ 0 ∷ 0 ∷ 0 ∷ 1 ∷ 6 ∷ 4 ∷ 0 ∷ 0 ∷ 0 ∷ 0 ∷ 0 ∷ 2 ∷ 6 ∷ []
+words = 0 ∷ 1 ∷ 0 ∷ 0 ∷ 0 ∷ 2 ∷ 0 ∷ 0 ∷ 0 ∷ 0 ∷ 0 ∷ 0 ∷ 0 ∷ 5 ∷ 0 ∷ 0 ∷ 0 ∷ 0 ∷ 1 ∷ 6 ∷ 4 ∷ 0 ∷ 0 ∷ 0 ∷ 0 ∷ 0 ∷ 2 ∷ 6 ∷ []
 
 -- the same, with the variable in two rows
 abbrev pub others : List ℕ
 others =
-    0 ∷ 1 ∷ 0 ∷ 0 ∷ 0 ∷ 3 ∷ 0 ∷ 0 ∷ 0 ∷ 0 ∷ 0 ∷ 0 ∷ 5 ∷ 0 ∷ 0 ∷ 0 ∷ 0 ∷ 1 ∷ 6 ∷ 0 ∷ 5 ∷ 0 ∷ 0 ∷ 0 ∷ 0 ∷ 1 ∷ 6 ∷ 4 ∷ 0 ∷ 0 ∷ 0 ∷ 1 ∷ 0
+    0 ∷ 1 ∷ 0 ∷ 0 ∷ 0 ∷ 3 ∷ 0 ∷ 0 ∷ 0 ∷ 0 ∷ 0 ∷ 0 ∷ 0 ∷ 5 ∷ 0 ∷ 0 ∷ 0 ∷ 0 ∷ 1 ∷ 6 ∷ 0 ∷ 5 ∷ 0 ∷ 0 ∷ 0 ∷ 0 ∷ 1 ∷ 6 ∷ 4 ∷ 0 ∷ 0 ∷ 0 ∷ 1 ∷ 0
     ∷ 2 ∷ 6 ∷ []
 
 abbrev pub lent : Areas
@@ -57,6 +57,7 @@ taken =
       first = record { accepted = refl; root_there = omega arith };
       second = record { accepted = refl; root_there = omega arith };
       tree = refl;
+      operators = λ n. refl;
       indent = refl;
       rows = refl;
       text = refl;
@@ -70,6 +71,7 @@ taken_wide =
       first = record { accepted = refl; root_there = omega arith };
       second = record { accepted = refl; root_there = omega arith };
       tree = refl;
+      operators = λ n. refl;
       indent = refl;
       rows = refl;
       text = refl;
@@ -142,6 +144,7 @@ taken_deep =
       first = record { accepted = refl; root_there = omega arith };
       second = record { accepted = refl; root_there = omega arith };
       tree = refl;
+      operators = λ n. refl;
       indent = refl;
       rows = refl;
       text = refl;

@@ -5,7 +5,7 @@ use Rattle.layout.specs.Layout.{Piece, textᵖ, blankᵖ, newlineᵖ, testᵖ}
 
 -- ---- blanks put back
 
--- a piece with a broken place's newline and indentation put back to its blank
+-- a piece with a broken place's newline and indentation put back to its own blank, which may be empty
 abbrev pub put_back : Piece → List ℕ
 put_back (textᵖ s) = s
 put_back (blankᵖ blank) = replicate blank 32

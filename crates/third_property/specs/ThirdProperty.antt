@@ -1,4 +1,5 @@
--- The third property (demand 3), clause by clause and in its order, over runs of print expression and print declaration; with document 02, P6.
+-- The third property (demand 3), clause by clause and in its order, over runs of print expression and print declaration; with document 02, P5
+-- and P6.
 use Rattle.std.specs.Prelude.{ℕ, ◌<◌, ◌≤◌, true, false, List, ◌≡◌, length, take, replicate, Ok, Err}
 use Rattle.document.specs.Doc.{Doc, row_count, text_bytes}
 use Rattle.document.specs.Stored.{stored}
@@ -12,9 +13,10 @@ use Rattle.third_property.specs.Claims.{restored, in_order, rows_in, joined, Wit
 use Rattle.third_property.specs.Places.{Met, met, pieces_of, places_in, failed, break_places, groups_outside}
 use Rattle.layout.specs.declared.Counts.{Counts}
 use Rattle.pool.specs.Tables.{Pool, E, D}
-use Rattle.pool.specs.Tree.{forget, forgetᵈ}
+use Rattle.pool.specs.Notation.{operator_of}
+use Rattle.pool.specs.Tree.{Name, forget, forgetᵈ}
 use Rattle.pool.specs.Unfold.{expr_at, declar_at}
-use Rattle.binders.specs.Options.{indented}
+use Rattle.binders.specs.Options.{options}
 use Rattle.pretty_printer.specs.Exprs.{expr_doc}
 use Rattle.declarations.specs.Declars.{declar_doc}
 use Rattle.lister.specs.declared.error.PrintError.TheVariants.{Size, Listing}
@@ -41,8 +43,8 @@ roots_in declaration source = D source.words
 
 -- the document that 01 defines for a root, with its marks
 unfoldable pub root_doc : Print → ℕ → Pool → ℕ → Marked
-root_doc expression indent p root = expr_doc (indented indent) (expr_at p root)
-root_doc declaration indent p root = declar_doc (indented indent) (declar_at p root)
+root_doc expression indent p root = expr_doc (options indent p) (expr_at p root)
+root_doc declaration indent p root = declar_doc (options indent p) (declar_at p root)
 
 -- "roots in them that unfold to the same tree": a tree in 01's sense has no places
 unfoldable pub SameTree : Print → Pool → ℕ → Pool → ℕ → Type 0
@@ -95,11 +97,13 @@ listing r s = take s.counts.length r.left.listing
 abbrev pub document : {k : Print} (r : Run k) → Succeeded r → Doc
 document r s = doc_of r.left.rows s.counts.rows r.left.text
 
--- "Take any two accepted pools, roots in them that unfold to the same tree, one indent, and lent areas of equal lengths."
+-- "Take any two accepted pools, roots in them that unfold to the same tree, one indent, and lent areas of equal lengths."; "The third property,
+-- all of it, now also presumes that both pools give the same operators to the same name trees" (document 02, P5)
 pub record Premises {k : Print} (a b : Run k) : Type 0 where
   pub first : Rooted a
   pub second : Rooted b
   pub tree : SameTree k (pool_of a.source) a.root (pool_of b.source) b.root
+  pub operators : (name : Name) → operator_of (pool_of a.source) name ≡ operator_of (pool_of b.source) name
   pub indent : a.indent ≡ b.indent
   pub rows : length a.lent.rows ≡ length b.lent.rows
   pub text : length a.lent.text ≡ length b.lent.text
@@ -162,7 +166,8 @@ pub record SameDocument {k : Print} (a b : Run k) (s : Succeeded a) (t : Succeed
   pub bytes : a.left.text ≡ b.left.text
   pub shared : document a s ≡ document b t
 
--- "Put each broken place's newline and indentation back to its blank, and both listings are that document's texts and blanks in order."
+-- "Put each broken place's newline and indentation back to its blank, and both listings are that document's texts and blanks in order."; "each
+-- break's own blank, which may be empty" (document 02, P5)
 pub record PutBack {k : Print} (r : Run k) (s : Succeeded r) (d : Doc) : Type 0 where
   pub listing_is : listing r s ≡ bytes_of (pieces r.width d)
   pub restores : restored (pieces r.width d) ≡ in_order d

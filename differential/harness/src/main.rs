@@ -4,7 +4,7 @@
 mod env;
 #[path = "../published/expr.rs"]
 mod expr;
-mod level; // published, with is_zero answering false
+mod level; // published, with is_zero answering true for the kind zero alone
 #[path = "../published/name.rs"]
 mod name;
 mod pool;
@@ -21,12 +21,16 @@ mod relevance {
 mod tc;
 mod util; // verbatim ranges of the published file
 
-use env::{ConstructorData, Declar, DeclarInfo, InductiveData, RecursorData, ReducibilityHint};
+use env::{ConstructorData, Declar, DeclarInfo, InductiveData, Notation, NotationMap, RecursorData, ReducibilityHint};
 use expr::BinderStyle;
 use pool::Pool;
 use pretty_printer::PpOptions;
 use std::io::{Read, Write};
 use util::{new_fx_hash_map, new_fx_index_map, Config, Dag, ExportFile, ExprPtr, LevelPtr, LevelsPtr, NamePtr, TcCtx};
+
+/// Added to the mode of a print: the operands of infix operators stand the other way round, as the Rust lists them, so that infix rows do not put the pool
+/// outside the domain.
+const TURNED: u32 = 16;
 
 struct Request {
     mode: u32,
@@ -80,7 +84,7 @@ fn config(indent: u32, width: u32) -> Config {
             all: false,
             explicit: true,
             universes: false,
-            notation: false,
+            notation: true,
             proofs: true,
             indent: indent as usize,
             width: width as usize,
@@ -156,6 +160,22 @@ impl<'t> Terms<'t> {
         for l in p.list(i)? { v.push(self.level(c, p, *l as usize)?) }
         Ok(c.alloc_levels(&v)) // panics above 32,767 levels, as the Rust does
     }
+    /// The notation rows by their names; equal name trees are one pointer.
+    fn notations<'p: 't>(&mut self, c: &mut TcCtx<'t, 'p>, p: &Pool<'t>) -> Result<NotationMap<'t>, String> {
+        let mut out: NotationMap<'t> = new_fx_hash_map();
+        for i in 0..p.n[pool::T] {
+            let r = p.row(pool::T, i)?;
+            let n = self.name(c, p, r[0] as usize)?;
+            let make = match r[1] {
+                0 => Notation::new_prefix,
+                1 => Notation::new_infix,
+                2 => Notation::new_postfix,
+                k => return Err(format!("notation kind {}", k)),
+            };
+            out.insert(n, make(n, r[2] as usize, p.string(r[3] as usize)?.into()));
+        }
+        Ok(out)
+    }
     /// Rows reachable from `root` only, lowest first (a row's children are lower rows).
     fn expr<'p: 't>(&mut self, c: &mut TcCtx<'t, 'p>, p: &Pool<'t>, root: usize) -> Result<ExprPtr<'t>, String> {
         p.row(pool::E, root)?;
@@ -226,9 +246,68 @@ impl<'t> Terms<'t> {
     }
 }
 
+/// What is printed.
+#[derive(Clone, Copy)]
+enum Root<'t> {
+    Expr(ExprPtr<'t>),
+    Declar(NamePtr<'t>),
+}
+
+/// The declaration of a row, and its name.
+fn declaration<'t, 'p: 't>(
+    t: &mut Terms<'t>,
+    c: &mut TcCtx<'t, 'p>,
+    p: &Pool<'t>,
+    d: &[u32],
+) -> Result<(NamePtr<'t>, Declar<'t>), String> {
+    let info = DeclarInfo {
+        name: t.name(c, p, d[1] as usize)?,
+        uparams: t.list(c, p, d[2] as usize)?,
+        ty: t.expr(c, p, d[3] as usize)?,
+    };
+    let n = info.name;
+    let val = if matches!(d[0], 2..=4) { t.expr(c, p, d[4] as usize)? } else { info.ty };
+    let declar = match d[0] {
+        0 => Declar::Axiom { info },
+        1 => Declar::Quot { info },
+        2 => Declar::Theorem { info, val },
+        3 => Declar::Definition { info, val, hint: ReducibilityHint::Opaque },
+        4 => Declar::Opaque { info, val },
+        5 => Declar::Inductive(InductiveData {
+            info,
+            is_recursive: false,
+            is_nested: false,
+            num_params: 0,
+            num_indices: 0,
+            all_ind_names: Vec::new().into(),
+            all_ctor_names: Vec::new().into(),
+        }),
+        6 => Declar::Constructor(ConstructorData {
+            info,
+            inductive_name: n,
+            ctor_idx: 0,
+            num_params: 0,
+            num_fields: 0,
+        }),
+        7 => Declar::Recursor(RecursorData {
+            info,
+            all_inductives: Vec::new().into(),
+            num_params: 0,
+            num_indices: 0,
+            num_motives: 0,
+            num_minors: 0,
+            rec_rules: Vec::new().into(),
+            is_k: false,
+        }),
+        k => return Err(format!("declaration kind {}", k)),
+    };
+    Ok((n, declar))
+}
+
 struct Answer {
     listing: String,
     dump: Option<pretty_printer::dump::Dump>,
+    infix: bool,
 }
 
 /// With ORACLE_PRINT_TIME set, writes to standard error how many nanoseconds of processor time the task took, less what asking for the time takes.
@@ -245,11 +324,11 @@ fn timed<T>(task: impl FnOnce() -> T) -> T {
 fn answer(q: &Request, doc: bool) -> Result<Answer, String> {
     if q.mode == 2 {
         let (listing, d) = pretty_printer::dump::render_rows(&q.bytes, &q.words, q.width as usize)?;
-        return Ok(Answer { listing, dump: doc.then_some(d) });
+        return Ok(Answer { listing, dump: doc.then_some(d), infix: false });
     }
     let p = Pool::new(&q.bytes, &q.words)?;
     let cfg = config(q.indent, q.width);
-    let decl = if q.mode == 1 { Some(p.row(pool::D, q.root as usize)?) } else { None };
+    let decl = if q.mode % TURNED == 1 { Some(p.row(pool::D, q.root as usize)?) } else { None };
 
     let mut arena = stumpalo::Arena::new();
     arena.with_scope(|scope| {
@@ -274,80 +353,40 @@ fn answer(q: &Request, doc: bool) -> Result<Answer, String> {
             levels: vec![None; p.n[pool::L]],
             exprs: vec![None; p.n[pool::E]],
         };
-        let bump = bumpalo::Bump::new();
-        match decl {
-            None => {
-                let e = t.expr(&mut c1, &p, q.root as usize)?;
-                let listing = timed(|| c1.with_pp(&bump, |pp| pp.pp_expr(e)));
-                let dump = doc.then(|| {
-                    c1.with_pp(&bump, |pp| pretty_printer::dump::Dump::of(&pretty_printer::dump::expr_doc(pp, e)))
-                });
-                Ok(Answer { listing, dump })
-            }
+        let notations = t.notations(&mut c1, &p)?;
+        // the same terms, now with an environment that holds the notation, and the declaration if one is printed
+        let mut declars = new_fx_index_map();
+        let root = match decl {
+            None => Root::Expr(t.expr(&mut c1, &p, q.root as usize)?),
             Some(d) => {
-                let info = DeclarInfo {
-                    name: t.name(&mut c1, &p, d[1] as usize)?,
-                    uparams: t.list(&mut c1, &p, d[2] as usize)?,
-                    ty: t.expr(&mut c1, &p, d[3] as usize)?,
-                };
-                let n = info.name;
-                let val = if matches!(d[0], 2..=4) { t.expr(&mut c1, &p, d[4] as usize)? } else { info.ty };
-                let declar = match d[0] {
-                    0 => Declar::Axiom { info },
-                    1 => Declar::Quot { info },
-                    2 => Declar::Theorem { info, val },
-                    3 => Declar::Definition { info, val, hint: ReducibilityHint::Opaque },
-                    4 => Declar::Opaque { info, val },
-                    5 => Declar::Inductive(InductiveData {
-                        info,
-                        is_recursive: false,
-                        is_nested: false,
-                        num_params: 0,
-                        num_indices: 0,
-                        all_ind_names: Vec::new().into(),
-                        all_ctor_names: Vec::new().into(),
-                    }),
-                    6 => Declar::Constructor(ConstructorData {
-                        info,
-                        inductive_name: n,
-                        ctor_idx: 0,
-                        num_params: 0,
-                        num_fields: 0,
-                    }),
-                    7 => Declar::Recursor(RecursorData {
-                        info,
-                        all_inductives: Vec::new().into(),
-                        num_params: 0,
-                        num_indices: 0,
-                        num_motives: 0,
-                        num_minors: 0,
-                        rec_rules: Vec::new().into(),
-                        is_k: false,
-                    }),
-                    k => return Err(format!("declaration kind {}", k)),
-                };
-                // the same terms, now with an environment that holds the declaration
-                let mut declars = new_fx_index_map();
+                let (n, declar) = declaration(&mut t, &mut c1, &p, d)?;
                 declars.insert(n, declar);
-                let ef2 = ExportFile {
-                    dag: Dag::new(&cfg, 0),
-                    anon,
-                    zero,
-                    declars,
-                    notations: new_fx_hash_map(),
-                    name_cache,
-                    config: cfg.clone(),
-                    mutual_block_sizes: new_fx_hash_map(),
-                };
-                let mut c2 = TcCtx::new(&ef2, scope);
-                c2.dag = c1.dag;
-                let listing = timed(|| c2.with_pp(&bump, |pp| pp.pp_declar(n))).unwrap();
-                let dump = doc.then(|| {
-                    c2.with_pp(&bump, |pp| pretty_printer::dump::Dump::of(&pretty_printer::dump::declar_doc(pp, n)))
-                });
-                Ok(Answer { listing, dump })
+                Root::Declar(n)
             }
-        }
+        };
+        let ef2 = ExportFile {
+            dag: Dag::new(&cfg, 0),
+            anon,
+            zero,
+            declars,
+            notations,
+            name_cache,
+            config: cfg.clone(),
+            mutual_block_sizes: new_fx_hash_map(),
+        };
+        let mut c2 = TcCtx::new(&ef2, scope);
+        c2.dag = c1.dag;
+        let bump = bumpalo::Bump::new();
+        use pretty_printer::dump::{declar_doc, expr_doc, Dump};
+        let listing = timed(|| c2.with_pp(&bump, |pp| match root {
+            Root::Expr(e) => pp.pp_expr(e),
+            Root::Declar(n) => pp.pp_declar(n).unwrap(),
+        }));
+        let dump = doc.then(|| c2.with_pp(&bump, |pp| match root {
+            Root::Expr(e) => Dump::of(&expr_doc(pp, e)),
+            Root::Declar(n) => Dump::of(&declar_doc(pp, n)),
+        }));
+        Ok(Answer { listing, dump, infix: p.has_infix() && q.mode < TURNED })
     })
 }
 
@@ -362,14 +401,14 @@ fn worker(doc: bool, time: bool) {
             let t0 = std::time::Instant::now();
             let r = std::panic::catch_unwind(|| answer(&q, doc)).unwrap_or_else(|_| Err("panic".into()));
             if time { eprintln!("{:?}", t0.elapsed()) }
-            let dom = probe::in_domain() as u32;
-            let (status, s, dump) = match r {
-                Ok(a) => (0u32, a.listing, a.dump),
+            let (status, s, dump, infix) = match r {
+                Ok(a) => (0u32, a.listing, a.dump, a.infix),
                 Err(e) => {
                     eprintln!("unanswered: {}", e);
-                    (1, String::new(), None)
+                    (1, String::new(), None, false)
                 }
             };
+            let dom = (probe::partitioned() && !infix) as u32;
             for w in [status, dom, s.len() as u32] { out.write_all(&w.to_le_bytes()).unwrap() }
             out.write_all(s.as_bytes()).unwrap();
             if doc {

@@ -19,17 +19,18 @@ tilusorgu list FILE [OPTION]..    lists declarations and expressions of a pool
     --width N                     width of a row in bytes, 0 to 65535 (120)
     --counts                      the counts of each listing, on standard error; lines are the rows that --numbers counts, fit tests the groups
                                   that are not inside a flat one
-    --numbers                     a margin with the number of each row; lines that a newline of a name or a literal makes have a + instead
+    --numbers                     a margin with the number of each row; lines that a newline of a name, a literal or an operator makes have
+                                  a + instead
     --progress, --quiet           how far the listing is, on standard error: always, never
                                   (without them: while it goes to a file, on a terminal)
-    --raw                         on a terminal, too, the bytes of names and literals as they are
+    --raw                         on a terminal, too, the bytes of names, literals and operators as they are
 tilusorgu pack FILE.txt [OPTION]..   makes a pool file of a text form
     -o FILE                       the pool file (FILE.pool beside the text; - is standard output)
     --no-share                    each row typed is a row of its own, even if it equals another
 tilusorgu help, tilusorgu version
 
 --width 80 and --width=80 are the same. FILE is a pool file, or - for standard input; after -- a FILE may begin with -. Listings are separated by an empty line.
-On a terminal control characters and bidirectional marks of names and literals are shown as escapes; a pipe or a file gets the bytes.
+On a terminal control characters and bidirectional marks of names, literals and operators are shown as escapes; a pipe or a file gets the bytes.
 Status: 0 done, whether compare says equal or differ; 1 something was refused; 2 wrong command line, wrong file, or no such name.
 docs/POOL-FILE.md has the pool file and the text form.
 ";

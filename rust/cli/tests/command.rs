@@ -17,7 +17,7 @@ fn lists_all_declarations() {
     let expected = "axiom a.b : @C\n\ndef «odd one» : @A → @B := @c\n\naxiom «a.b» : @D\n";
     assert_eq!(run(&["list", path]), (expected.to_string(), String::new(), 0));
     let (checked, _, status) = run(&["check", path]);
-    assert!(checked.contains("accepted (") && checked.contains("3 declarations)") && status == 0, "{checked}");
+    assert!(checked.contains("accepted (") && checked.contains("3 declarations, 0 notations)") && status == 0, "{checked}");
 }
 
 #[test]
@@ -46,6 +46,24 @@ fn refusals() {
     let path = pool_file("refused.pool", "(axiom k (proj S 65536 @s))");
     for command in ["check", "list"] {
         assert_fails(&[command, path.to_str().unwrap()], 1, "refused 4 (expression row 1, words 7 ");
+    }
+    for (name, operators, said) in [
+        (
+            "priority.pool",
+            "(infix C 0 \"\")",
+            "refused 31 (notation row 0, words 2 1 0 2): a notation row has a name row that exists, kind 0 (prefix), ",
+        ),
+        (
+            "twice.pool",
+            "(infix C 1 \"\") (prefix k 1 \"k\") (postfix C 9 \"C\")",
+            "refused 31 (notation row 2, words 2 2 9 1): notation row 0 has the same name, ",
+        ),
+    ] {
+        let path = pool_file(name, &format!("(axiom k @C) {operators}"));
+        let path = path.to_str().unwrap();
+        for words in [&["check", path][..], &["list", path], &["names", path], &["compare", path, "0", "0"]] {
+            assert_fails(words, 1, &format!("{name}: {said}"));
+        }
     }
     let path = pool_file("fine.pool", TWO);
     let path = path.to_str().unwrap();
@@ -93,7 +111,12 @@ fn wrong_files() {
         ("head", fine[..20].to_vec(), "ends within its head"),
         ("short", fine[..fine.len() - 1].to_vec(), "but"),
         ("long", [&fine[..], &[0]].concat(), "but"),
-        ("version", with(8, &[2]), "version 2"),
+        (
+            "old_version",
+            with(8, &[1]),
+            "old_version is a pool file of version 1, made before pools had a notation table: make it again with `tilusorgu pack`\n",
+        ),
+        ("version", with(8, &[3]), "version has format version 3; this program reads version 2\n"),
         ("bytes", with(16, &[0xff; 8]), "but"),
         ("words", with(24, &[0xff; 8]), "but"),
     ] {
@@ -130,11 +153,30 @@ fn packs() {
     let mut list = command().args(["list", "-", "--declar", "0"]).stdin(Stdio::piped()).stdout(Stdio::piped()).spawn().unwrap();
     list.stdin.take().unwrap().write_all(&piped).unwrap();
     assert_eq!(said(list.wait_with_output().unwrap()).0, "axiom a.b : @C\n");
+    let missing = file("missing.txt", b"(axiom k @C)\n  (infix add \"+\")");
+    assert_fails(&["pack", missing.to_str().unwrap()], 2, "missing.txt:2:3: (infix NAME PRIORITY \"text\") is expected\n");
     let wrong = file("wrong.txt", b"(axiom k\n  x)");
     assert_fails(&["pack", wrong.to_str().unwrap()], 2, "wrong.txt:2:3: no binder round this is named x");
     let bytes = file("bytes.txt", b"(axiom \xff @C)");
     assert_fails(&["pack", bytes.to_str().unwrap()], 2, "not UTF-8 at byte 7");
     assert_fails(&["pack", path, "-o", "/no/such/folder/a.pool"], 2, "cannot be written");
+}
+
+#[test]
+fn operators() {
+    let path =
+        pool_file("operators.pool", "(infix add 65 \"+\") (prefix neg 75 \"-\") (axiom k (@P (@neg @a) (@add @a @b))) (define e (@add (Sort 0) @b))");
+    let path = path.to_str().unwrap();
+    let (checked, messages, status) = run(&["check", path]);
+    assert!(checked.ends_with(", 1 declaration, 2 notations)\n") && messages.is_empty() && status == 0, "{checked}");
+    assert_eq!(run(&["list", path]).0, "axiom k : @P (-@a) (@a+@b)\n");
+    assert_eq!(run(&["list", path, "--width", "0"]).0, "axiom k :\n  @P\n    (-\n    @a)\n    (@a+\n      @b)\n");
+    assert_eq!(run(&["list", path, "--expr", "12"]).0, "Prop+@b\n");
+    assert_eq!(run(&["names", path]).0, "0 axiom k\n");
+    // two rows are shown as they are listed
+    let (said, ..) = run(&["compare", path, "8", "10"]);
+    assert!(said.starts_with("differ: expression rows 8 and 10, in their kinds\nrow 8 (application, words 3 6 7 0 0 0 3 0): @a+@b\n"), "{said}");
+    assert!(said.ends_with("\nrow 10 (sort, words 1 0 0 0 0 0 1 0): Prop\n"), "{said}");
 }
 
 /// Whoever reads the listing may stop early.
@@ -154,7 +196,7 @@ fn broken_pipe() {
 #[test]
 fn full_pool() {
     let n = 65_536u32;
-    let mut words = vec![n; 7];
+    let mut words = vec![n; 8];
     words.extend((0..n).flat_map(|i| [256 * i, 256]));
     words.extend((0..n).flat_map(|i| if i == 0 { [0; 4] } else { [1, 0, i, 0] }));
     words.extend((0..n).flat_map(|i| [4, i, 0]));
@@ -162,10 +204,13 @@ fn full_pool() {
     words.extend(0..n);
     words.extend((0..n).flat_map(|i| [2, i, i, 0, 0, 0, 1, 0]));
     words.extend((0..n).flat_map(|i| [0, i, i, i, 0]));
-    let path = file("full.pool", &encode(&Pool { bytes: vec![b'n'; 256 * n as usize], words }));
+    words.extend((0..n).flat_map(|i| [i, i % 3, 1 + i % 1023, i]));
+    // no two strings are equal, so that no two names are
+    let bytes = (0..n).flat_map(|i| [format!("n{i:07}").into_bytes(), vec![b'n'; 248]].concat()).collect();
+    let path = file("full.pool", &encode(&Pool { bytes, words }));
     let path = path.to_str().unwrap();
     assert!(run(&["check", path]).0.contains("accepted"));
-    let long = "n".repeat(256);
+    let long = format!("n0065535{}", "n".repeat(248));
     let (output, messages, status) = run(&["list", path, "--declar", "65535", "--width", "65535"]);
     assert_eq!((output, messages.as_str(), status), (format!("axiom {long}.{{{long}}} : @{long}\n"), "", 0));
     std::fs::remove_file(path).unwrap();

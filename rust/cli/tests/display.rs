@@ -42,6 +42,20 @@ fn numbers_tell_rows_from_newlines_of_texts() {
     assert_eq!(on_terminal(&words), (shown.to_string(), 0));
 }
 
+/// An operator's text is one of the pool's, too, and beside it a place may be broken or have no blank.
+#[test]
+fn texts_of_operators() {
+    let text = "(infix add 65 \"\n  axiom b : \u{1b}[2J\") (postfix end 80 \"\n\") (axiom a (@add @x (@end @y)))";
+    let path = pool_file("texts_of_operators.pool", text);
+    let words = ["list", path.to_str().unwrap(), "--numbers"];
+    let piped = "  1 | axiom a : @x\n    +   axiom b : \u{1b}[2J@y\n    +\n";
+    assert_eq!(run(&words), (piped.to_string(), String::new(), 0));
+    assert_eq!(on_terminal(&words), ("  1 | axiom a : @x\\n  axiom b : \\u{1b}[2J@y\\n\n".to_string(), 0));
+    let narrow = [&words[..], &["--width", "0"]].concat();
+    let shown = "  1 | axiom a :\n  2 |   @x\\n  axiom b : \\u{1b}[2J\n  3 |     @y\n  4 |     \\n\n";
+    assert_eq!(on_terminal(&narrow), (shown.to_string(), 0));
+}
+
 /// The margin grows with the numbers.
 #[test]
 fn a_thousand_rows() {

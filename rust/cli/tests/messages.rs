@@ -28,9 +28,9 @@ fn texts() {
 fn wrong_counts() {
     let total = pool_file("total.pool", "(axiom k @C) (words 5)");
     assert_fails(&["check", total.to_str().unwrap()], 1, "total.pool: refused 1: its counts (2 strings, 3 names, ");
-    assert_fails(&["list", total.to_str().unwrap()], 1, "make 7 + 4 + 12 + 0 + 2 + 0 + 8 + 5 = 38 words, but it has 39");
-    let mut words = vec![0, 0, 0, 0, 65_537, 0, 0];
-    words.resize(7 + 65_537, 0);
+    assert_fails(&["list", total.to_str().unwrap()], 1, "make 8 + 4 + 12 + 0 + 2 + 0 + 8 + 5 + 0 = 39 words, but it has 40");
+    let mut words = vec![0, 0, 0, 0, 65_537, 0, 0, 0];
+    words.resize(8 + 65_537, 0);
     let many = file("many.pool", &encode(&Pool { bytes: vec![], words }));
     assert_fails(&["check", many.to_str().unwrap()], 1, "refused 2: it has 65537 list words, and at most 65536 rows are allowed in a table");
 }
@@ -130,7 +130,8 @@ fn built_by(name: &str, rt: &str) -> (String, i32) {
     let path = format!("{}:{}", place.join("bin").display(), std::env::var("PATH").unwrap());
     let messages = std::fs::File::create(place.join("messages")).unwrap();
     let mut build = Command::new(place.join("rust/build-library"));
-    let (output, _, status) = said(build.env("PATH", path).env_remove("TILUSORGU_LIB_DIR").env_remove("TILUSORGU_PROVED_SINCE").stderr(messages).output().unwrap());
+    let (output, _, status) =
+        said(build.env("PATH", path).env_remove("TILUSORGU_LIB_DIR").env_remove("TILUSORGU_PROVED_SINCE").stderr(messages).output().unwrap());
     assert_eq!(output, "");
     (std::fs::read_to_string(place.join("messages")).unwrap(), status)
 }

@@ -68,11 +68,16 @@ fn mistaken() -> std::path::PathBuf {
     written("no_body.txt", b"(axiom k (forall (x : @A)))");
     written("mark.txt", b"\xef\xbb\xbf(axiom k @C)");
     written("comma.txt", b"(axiom a,b @C)");
-    for name in ["lemma", "refused", "total"] {
+    written("operator.txt", b"(infix add \"+\")");
+    written("priority.txt", b"(axiom k @C) (infix C 1024 \"+\")");
+    written("twice.txt", b"(axiom k @C) (infix C 65 \"+\") (prefix k 75 \"-\") (postfix C 80 \"!\")");
+    for name in ["lemma", "refused", "total", "priority", "twice"] {
         let path = |ending: &str| folder.join(name).with_extension(ending).into_os_string().into_string().unwrap();
         assert_eq!(run(&["pack", &path("txt"), "-o", &path("pool")]).2, 0, "{name}");
     }
-    written("short.pool", &std::fs::read(folder.join("lemma.pool")).unwrap()[..40]);
+    let lemma = std::fs::read(folder.join("lemma.pool")).unwrap();
+    written("short.pool", &lemma[..40]);
+    written("old.pool", &[&lemma[..8], &[1], &lemma[9..]].concat());
     std::os::unix::fs::symlink("lemma.txt", folder.join("link.txt")).unwrap();
     folder
 }

@@ -8,7 +8,7 @@ use tilusorgu::Pool;
 
 /// Each print checks the pool's 16,777,216 bytes first, so that some dozens take long enough for the line. Characters of four bytes take longest.
 fn slow() -> PathBuf {
-    let words = vec![1, 2, 0, 1, 0, 1, 1, 0, 1 << 24, 0, 0, 0, 0, 1, 0, 0, 0, 0, 0, 2, 0, 0, 0, 0, 0, 1, 0, 0, 0, 0, 0, 0];
+    let words = vec![1, 2, 0, 1, 0, 1, 1, 0, 0, 1 << 24, 0, 0, 0, 0, 1, 0, 0, 0, 0, 0, 2, 0, 0, 0, 0, 0, 1, 0, 0, 0, 0, 0, 0];
     file("slow.pool", &encode(&Pool { bytes: "𝔸".repeat(1 << 22).into_bytes(), words }))
 }
 

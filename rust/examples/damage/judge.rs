@@ -2,6 +2,7 @@
 use crate::comparison;
 use crate::fit_tests::fit_tests;
 use crate::guarded::Guarded;
+use crate::notation;
 use tilusorgu::{Comparison, Pool, Root, Table};
 
 /// Guards and what fills an area before a call.
@@ -73,13 +74,25 @@ pub fn print_areas(number: u32, counts: &[u64], areas: &Areas, width: u32) -> Re
             need(areas.rows.is_from(7 * counts[2] as usize, 0), "the row area is not zero past the document")?;
             need(areas.text.is_from(counts[3] as usize, 0), "the text area is not zero past the document")
         }
-        1..=6 => need(areas.rows.untouched_from(0) && areas.text.untouched_from(0) && areas.listing.untouched_from(0), "1 to 6 wrote an area"),
+        1..=6 | 31 => {
+            need(areas.rows.untouched_from(0) && areas.text.untouched_from(0) && areas.listing.untouched_from(0), "1 to 6 or 31 wrote an area")
+        }
         7 | 8 | 20 | 21 => {
             need(areas.rows.is_from(0, 0) && areas.text.is_from(0, 0), "7, 8, 20 or 21 left something in the document areas")?;
             need(areas.listing.untouched_from(0), "7, 8, 20 or 21 wrote the listing area")
         }
         22 => Ok(()),
         _ => Err(format!("a print is never refused {number}")),
+    }
+}
+
+/// What check says of a pool: 31 exactly where the notation rows are wrong, since a pool that is refused so or accepted has passed 1 to 4.
+pub fn checked(number: u32, pool: &Pool) -> Result<(), String> {
+    match number {
+        0 => need(!notation::is_wrong(pool), "a notation row breaks its rule or repeats a name, and check accepts"),
+        31 => need(notation::is_wrong(pool), "31, though each notation row keeps its rule and no name is given twice"),
+        1..=4 => Ok(()),
+        _ => Err(format!("check is never refused {number}")),
     }
 }
 
@@ -95,7 +108,7 @@ pub fn print_number(checked: (u32, u64), answer: (u32, u64), pool: &Pool, root: 
     let (no_root, no_sizes) = (row >= pool.count(table), indent > 64 || width > 65_535);
     need((answer.0 == 5) == no_root, "5 is not exactly for a missing root")?;
     need((answer.0 == 6) == (!no_root && no_sizes), "6 is not exactly for indent and width")?;
-    need(!(1..=4).contains(&answer.0), "an accepted pool is refused 1 to 4")?;
+    need(!matches!(answer.0, 1..=4 | 31), "an accepted pool is refused 1 to 4 or 31")?;
     need(answer.0 != 7 || answer.1 < u64::from(pool.count(Table::Exprs)), "the place of 7 is no expression row")
 }
 

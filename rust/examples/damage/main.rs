@@ -17,6 +17,8 @@ mod judge;
 #[path = "../../tests/common/limits.rs"]
 mod limits;
 mod mutate;
+#[path = "../../tests/common/notation.rs"]
+mod notation;
 mod random;
 #[path = "../../tests/common/recorded.rs"]
 mod recorded;

@@ -2,8 +2,10 @@
 use crate::random::Random;
 use tilusorgu::{Pool, Table};
 
+/// Counts of a pool's head.
+const HEAD: usize = Table::ALL.len();
 /// Numbers at the edges of document 01's limits.
-const EDGES: [u32; 20] = [0, 1, 2, 3, 7, 8, 63, 64, 65, 255, 256, 257, 1024, 4095, 4096, 65534, 65535, 65536, 0x7fff_ffff, u32::MAX];
+const EDGES: [u32; 21] = [0, 1, 2, 3, 7, 8, 63, 64, 65, 255, 256, 257, 1023, 1024, 4095, 4096, 65534, 65535, 65536, 0x7fff_ffff, u32::MAX];
 
 fn word(r: &mut Random, words: &[u32], at: usize) -> u32 {
     match r.below(7) {
@@ -62,7 +64,7 @@ fn rows(r: &mut Random, pool: &mut Pool) {
     let Some(mut copy) = pool.row(table, row).map(<[u32]>::to_vec) else {
         return;
     };
-    let start: usize = 7 + Table::ALL[..table as usize].iter().map(|&t| pool.count(t) as usize * t.row_words()).sum::<usize>();
+    let start: usize = HEAD + Table::ALL[..table as usize].iter().map(|&t| pool.count(t) as usize * t.row_words()).sum::<usize>();
     let end = start + count * size;
     // the words may have been cut already
     if end > pool.words.len() {
@@ -79,15 +81,33 @@ fn rows(r: &mut Random, pool: &mut Pool) {
     }
 }
 
+/// Notation rows more, mostly right ones, of names and strings that the pool has: any of its constants may become an operator.
+fn notation(r: &mut Random, pool: &mut Pool) {
+    let [names, strings] = [Table::Names, Table::Strings].map(|table| pool.count(table).min(65_536) as usize);
+    for _ in 0..1 + r.below(4) {
+        let priority = *r.pick(&[1, 2, 24, 25, 26, 65, 66, 1022, 1023]);
+        let mut row = [r.below(names) as u32, r.below(3) as u32, priority, r.below(strings) as u32];
+        if r.one_in(60) {
+            let at = r.below(4);
+            row[at] = word(r, &row, at);
+        }
+        pool.words[Table::Notations as usize] = pool.count(Table::Notations).wrapping_add(1);
+        pool.words.extend(row);
+    }
+}
+
 /// Some changes to a pool, or none.
 pub fn pool(r: &mut Random, pool: &mut Pool) {
+    if pool.words.len() >= HEAD && r.one_in(3) {
+        notation(r, pool);
+    }
     if r.one_in(8) {
         return;
     }
     for _ in 0..1 + r.below(3) {
         match r.below(10) {
-            0 if pool.words.len() >= 7 => {
-                let at = r.below(7);
+            0 if pool.words.len() >= HEAD => {
+                let at = r.below(HEAD);
                 pool.words[at] = word(r, &pool.words, at);
             }
             1..=3 => rows(r, pool),

@@ -119,7 +119,7 @@ fn check(pool: &Pool, r: &mut Random, tally: &mut Tally) -> Result<(u32, u64), S
     let number = calls::check(pool, &mut out);
     tally.count("check", number);
     judge::out(number, &out)?;
-    need(number <= 4, "check refuses 1 to 4 alone")?;
+    judge::checked(number, pool)?;
     let mut again = long_out();
     need(calls::check(pool, &mut again) == number, "check depends on the length of out")?;
     Ok((number, again.seen()[1]))

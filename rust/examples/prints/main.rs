@@ -17,6 +17,9 @@ mod guarded;
 #[allow(dead_code)]
 #[path = "../damage/judge.rs"]
 mod judge;
+#[allow(dead_code)] // of check the program of damaged inputs judges more
+#[path = "../../tests/common/notation.rs"]
+mod notation;
 mod request;
 mod short;
 
@@ -181,6 +184,7 @@ fn exactly(q: &Request, [rows, text, listing]: [u32; 3]) -> Result<Vec<u8>, Stri
             let mut out = new_out();
             let number = calls::check(&q.pool, &mut out);
             judge::out(number, &out)?;
+            judge::checked(number, &q.pool)?;
             (out, Areas::new([0, 0, 0]))
         }
         Call::Compare => {

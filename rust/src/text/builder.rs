@@ -1,4 +1,4 @@
-//! A pool in the making: rows at the ends of the seven tables, equal ones shared or not.
+//! A pool in the making: rows at the ends of the eight tables, equal ones shared or not.
 use super::names::{Component, Name};
 use super::Sharing;
 use crate::pool::{Pool, Table};
@@ -7,7 +7,7 @@ use std::collections::HashMap;
 pub struct Builder {
     sharing: Sharing,
     bytes: Vec<u8>,
-    tables: [Vec<u32>; 7],
+    tables: [Vec<u32>; Table::ALL.len()],
     /// Rows by their words; strings by their bytes and lists by their levels, since their own words are places.
     rows: HashMap<(Table, Vec<u32>), u32>,
     strings: HashMap<Vec<u8>, u32>,

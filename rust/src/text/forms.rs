@@ -7,7 +7,9 @@ use crate::pool::Table;
 
 /// The words for the kinds of declarations, in the order of the kinds.
 pub const DECLARATIONS: [&str; 8] = ["axiom", "quotient", "theorem", "def", "opaque", "inductive", "constructor", "recursor"];
-const TABLES: [&str; 7] = ["strings", "names", "levels", "lists", "list-words", "expressions", "declarations"];
+/// The words for the kinds of notation rows, in the order of the kinds.
+const NOTATIONS: [&str; 3] = ["prefix", "infix", "postfix"];
+const TABLES: [&str; Table::ALL.len()] = ["strings", "names", "levels", "lists", "list-words", "expressions", "declarations", "notation"];
 
 pub fn packed(items: &[Item], sharing: Sharing) -> Result<Packed, Mistake> {
     let mut terms = Terms::new(Builder::new(sharing));
@@ -24,6 +26,7 @@ fn form(item: &Item, terms: &mut Terms, defined: &mut Vec<(String, u32)>) -> Res
     };
     match (head.word().unwrap_or(""), rest) {
         (word, _) if DECLARATIONS.contains(&word) => declaration(item, word, rest, terms)?,
+        (word, _) if NOTATIONS.contains(&word) => notation(item, word, rest, terms)?,
         ("define", [short, term]) => define(short, term, terms, defined)?,
         ("row", [table, words @ ..]) => raw_row(table, words, terms)?,
         ("string", [text]) => drop(terms.builder.string(quoted(text)?)),
@@ -33,7 +36,7 @@ fn form(item: &Item, terms: &mut Terms, defined: &mut Vec<(String, u32)>) -> Res
         ("bytes", [text]) => terms.builder.gap(quoted(text)?),
         ("words", words) => words.iter().try_for_each(|w| number(w).map(|w| terms.builder.surplus(w)))?,
         _ => {
-            let known = DECLARATIONS.join(", ");
+            let known = [&DECLARATIONS[..], &NOTATIONS].concat().join(", ");
             return mistake(
                 item.at,
                 format!("no form looks like this: forms are {known}, define, string, name, level, levels, row, bytes and words"),
@@ -68,6 +71,18 @@ fn declaration(item: &Item, word: &str, parts: &[Item], terms: &mut Terms) -> Re
     let type_ = terms.term(type_)?;
     let value = value.map_or(Ok(0), |v| terms.term(v))?;
     terms.builder.append(Table::Declars, &[kind, name, list, type_, value]);
+    Ok(())
+}
+
+/// An operator: the name of its constant, its priority and its string.
+fn notation(item: &Item, word: &str, parts: &[Item], terms: &mut Terms) -> Result<(), Mistake> {
+    let kind = NOTATIONS.iter().position(|n| *n == word).unwrap_or(0) as u32;
+    let [named, priority, text] = parts else {
+        return mistake(item.at, format!("({word} NAME PRIORITY \"text\") is expected"));
+    };
+    let (parsed, priority, text) = (name(named)?, number(priority)?, quoted(text)?);
+    let row = [terms.builder.name(&parsed), kind, priority, terms.builder.string(text)];
+    terms.builder.append(Table::Notations, &row);
     Ok(())
 }
 

@@ -1,7 +1,8 @@
 //! Pools made row by row, among them some whose trees are far larger than their rows.
 use tilusorgu::Pool;
 
-/// Rows of the seven tables, appended by hand: names 0 is anonymous, then x, C, c; the list 0 is empty; every row has its depth and its loose word.
+/// Rows of a pool's tables, appended by hand: names 0 is anonymous, then x, C, c; the list 0 is empty; every row has its depth and its loose
+/// word.
 #[derive(Default)]
 pub struct Rows {
     pub levels: Vec<[u32; 3]>,
@@ -102,7 +103,7 @@ impl Rows {
     pub fn pool(self) -> Pool {
         let (strings, names) = ([[0, 1], [1, 1], [2, 1]], [[0, 0, 0, 0], [1, 0, 0, 0], [1, 0, 1, 0], [1, 0, 2, 0]]);
         let counts = [self.levels.len(), 1 + self.lists.len(), self.entries.len(), self.exprs.len()].map(|n| n as u32);
-        let mut words = vec![3, 4, counts[0], counts[1], counts[2], counts[3], 0];
+        let mut words = vec![3, 4, counts[0], counts[1], counts[2], counts[3], 0, 0];
         words.extend(strings.iter().flatten());
         words.extend(names.iter().flatten());
         words.extend(self.levels.iter().flatten());

@@ -27,7 +27,7 @@ pub fn long_literal() -> String {
 
 /// One list word more than a table may have rows, and the total right.
 pub fn too_many_list_words() -> Pool {
-    let mut words = vec![0; 7 + 65_537];
+    let mut words = vec![0; 8 + 65_537];
     words[4] = 65_537;
     Pool { bytes: vec![], words }
 }

@@ -1,6 +1,6 @@
 use mathlib.Core.Path.{sym, ap, ◌∙◌}
 use Rattle.pool.specs.Tables.{Pool}
-use Rattle.binders.specs.Options.{indented}
+use Rattle.binders.specs.Options.{options}
 use Rattle.pool_check.proofs.Verdicts.{err_is}
 use Rattle.declarations.specs.Roots.{root_doc}
 use Rattle.lister.specs.Answers.{Answer}
@@ -35,5 +35,5 @@ returns c =
     let same = c.in_ok-pool.ensures.same in
     let present = ap (has_root c.args.root) (sym same) ∙ sym c.has_root.ensures ∙ c.if-not-has_root.false in
     c.print_checked.ensures
-    ∙ ap (λ (q : Pool). print_doc (root_doc c.args.root (indented c.args.indent) q) c.args.width areas) same
+    ∙ ap (λ (q : Pool). print_doc (root_doc c.args.root (options c.args.indent q) q) c.args.width areas) same
     ∙ print_begins _ _ _ _ _ (sym c.in_ok-pool.ensures.verdict) present (sym c.sizes_ok.ensures ∙ c.if-not-sizes_ok.false)

@@ -1,28 +1,7 @@
-use Rattle.std.proofs.Common.{rules}
-use mathlib.Core.Path.{◌∙◌}
-use Rattle.document.specs.Walk.{Marked}
 use Rattle.pool.specs.Views.{lent}
-use Rattle.binders.specs.Options.{indented}
-use Rattle.declarations.specs.Roots.{root_doc}
-use Rattle.lister.specs.Prints.{Areas}
-use Rattle.lister.proofs.Finishing.{root_fine, accepted_after, finished_after}
+use Rattle.lister.proofs.Operating.{no_operators}
+use native.Mathlib.Omega.{arith}
 use Rattle.lister.proofs.checked.print_checked.Goals as goal
 
-pub finish-requires : goal.finish-requires
-finish-requires c =
-    let a = c.args in
-    let m : Marked = root_doc a.root (indented a.indent) (lent a.pool) in
-    let areas : Areas = record { rows = a.rows.now; text = a.text.now; listing = a.listing.now } in (
-      accepted_after m (root_fine a.root a.indent c.requires.indent_small (lent a.pool)) a.width areas _ _ c.new-sink.ensures.is c.print.ensures (search rules) (search
-          rules),
-      c.requires.width_small,
-    )
-
-pub returns : goal.returns
-returns c =
-    let a = c.args in
-    let m : Marked = root_doc a.root (indented a.indent) (lent a.pool) in
-    let areas : Areas = record { rows = a.rows.now; text = a.text.now; listing = a.listing.now } in
-    c.finish.ensures
-    ∙ finished_after m (root_fine a.root a.indent c.requires.indent_small (lent a.pool)) a.width areas _ _ c.new-sink.ensures.is c.print.ensures (search rules) (search rules) (search rules) (search
-    rules)
+pub print_with-requires-clause-told : goal.print_with-requires-clause-told
+print_with-requires-clause-told c = no_operators (lent c.args.pool) (omega (arith, c.args.pool.words.found, c.if-pool-eq0.true))

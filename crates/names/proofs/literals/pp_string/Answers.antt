@@ -7,4 +7,4 @@ use Rattle.names.proofs.literals.pp_string.Goals as goal
 
 pub returns : goal.returns
 unfolding emit quoted bytes encode
-returns c = leaves_as (leaves_after (leaves_after (leaves_after c.put_word.ensures c.pp_nat.ensures) c.put_join.ensures) c.join_word.ensures) refl
+returns c = leaves_as (leaves_after (leaves_after (leaves_after c.put_word.ensures c.pp_raw.ensures) c.put_join.ensures) c.join_word.ensures) refl

@@ -33,6 +33,21 @@ decreases-pp_let_body l = l.r * 8
 abbrev pub decreases-pp_let_head : goal.decreases-pp_let_head
 decreases-pp_let_head l = l.r * 8
 
+abbrev pub decreases-pp_operator : goal.decreases-pp_operator
+decreases-pp_operator l = l.r * 8 + 3
+
+abbrev pub decreases-pp_operands : goal.decreases-pp_operands
+decreases-pp_operands l = l.r * 8 + 2
+
+abbrev pub decreases-pp_prefix : goal.decreases-pp_prefix
+decreases-pp_prefix l = l.r * 8 + 1
+
+abbrev pub decreases-pp_infix : goal.decreases-pp_infix
+decreases-pp_infix l = l.r * 8 + 1
+
+abbrev pub decreases-pp_postfix : goal.decreases-pp_postfix
+decreases-pp_postfix l = l.r * 8 + 1
+
 abbrev pub decreases-pp_part : goal.decreases-pp_part
 decreases-pp_part l = l.r * 8 + 1
 

@@ -1,0 +1,5 @@
+pub mod Classing
+pub mod StringClasses
+pub mod NameClasses
+pub mod Owning
+pub mod Entries

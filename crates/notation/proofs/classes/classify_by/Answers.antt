@@ -1,0 +1,28 @@
+use Rattle.pool.specs.Views.{read}
+use Rattle.pool.proofs.Unfolds.{depths_more}
+use Rattle.notation.specs.Classes.{lowest}
+use Rattle.notation.proofs.Classing.{lowest_is, chains_more}
+use Prim.Native.Nat.{ℕ, ◌%◌, ◌<◌}
+use lib.ListN.{length}
+use mathlib.Core.Path.{ap}
+use native.Mathlib.Omega.{arith}
+use Rattle.notation.proofs.classes.classify_by.Goals as goal
+
+pub overflow_cast-classes : goal.overflow_cast-classes
+overflow_cast-classes g c =
+    let low = (lowest_is (g.C.Classes.table.tree (read c.args.pool.now)) c.loop-r.r).low in
+    omega (arith, c.find-class.ensures, low)
+
+pub loop-r-preserved : goal.loop-r-preserved
+loop-r-preserved g c =
+    let t = g.C.Classes.table in
+    let p = read c.args.pool.now in
+    let heads : c.loop-r.r < length c.loop-r.heads = omega arith in
+    let below : c.loop-r.r < length c.loop-r.below = omega arith in
+    let classes : c.loop-r.r < length c.loop-r.classes = omega arith in
+    let own = ap (λ (n : ℕ). n % length c.loop-r.heads) c.hash.ensures in
+    let inside : c.hash.result % length c.loop-r.heads < length c.loop-r.heads = omega arith in
+    record {
+      chains = chains_more t p c.loop-r.heads c.loop-r.below _ c.loop-r.r own inside below c.loop-r.invariant.chains;
+      classed = depths_more c.loop-r.classes (lowest (t.tree p)) c.loop-r.r c.find-class.result classes c.loop-r.invariant.classed c.find-class.ensures;
+    }

@@ -1,0 +1,3 @@
+-- what the contracts and the proofs speak of; what a reader must believe is in pool/Notation
+pub mod Classes
+pub mod Tables

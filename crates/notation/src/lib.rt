@@ -1,0 +1,7 @@
+// Notation: the operators that the names of a pool have.
+#![tactic(auto)]
+
+mod classes;
+mod names;
+pub mod operators;
+mod strings;
