@@ -197,8 +197,11 @@ fn mixed(length: u32) -> Vec<u8> {
 fn operators_of_long_parts() {
     let parts: Vec<Pair> = (0..65_535).map(|i| (i, LONG)).collect();
     assert_eq!(operators_of(mixed(AREA), &parts), Ok(()));
+    // so many equal bytes at first that only the ends differ
+    let late = || [vec![b'x'; LONG as usize - 1], mixed(AREA - LONG + 1)].concat();
+    assert_eq!(operators_of(late(), &parts), Ok(()));
     // the last one is a copy of the first
-    let mut again = mixed(AREA);
+    let mut again = late();
     again.copy_within(..LONG as usize, (AREA - LONG) as usize);
     let mut last = parts.clone();
     last[65_534] = (AREA - LONG, LONG);
@@ -215,6 +218,7 @@ fn operators_of_long_parts() {
 fn operators_of_longer_parts() {
     let parts: Vec<Pair> = (0..65_535).map(|i| (i, AREA / 2)).collect();
     assert_eq!(operators_of(mixed(AREA), &parts), Ok(()));
+    assert_eq!(operators_of(vec![b'x'; AREA as usize], &parts), TWICE);
     // to the end of the area: each has another length
     let ends: Vec<Pair> = (0..65_535).map(|i| (i, AREA - i)).collect();
     assert_eq!(operators_of(mixed(AREA), &ends), Ok(()));

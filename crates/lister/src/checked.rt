@@ -75,8 +75,8 @@ fn print_with(
     finish(written, width, rows, text, listing)
 }
 
-// The same with a table of SIZE entries, at least as many as there are strings and names. Not inlined: the tables would stand in the frame of
-// every print.
+// The same with a table of SIZE entries, at least as many as there are strings and names. Not inlined: the tables would stand in the
+// frame of every print.
 #[inline(never)]
 fn print_in<const SIZE: usize>(
     pool: CheckedPool<'_>,
@@ -104,8 +104,8 @@ fn print_in<const SIZE: usize>(
     print_with(pool, &table, root, indent, width, rows, text, listing)
 }
 
-// A root that the pool has, at an indent and a width within their limits. The table of operators is no longer than need be, since all of it is
-// cleared; there is none where the pool has no notation.
+// A root that the pool has, at an indent and a width within their limits. The table of operators is no longer than need be, since all of
+// it is cleared; there is none where the pool has no notation.
 pub(crate) fn print_checked(
     pool: CheckedPool<'_>,
     root: Root,

@@ -9,15 +9,19 @@ use lib.Seq.{get_or-set_same, get_or-set_other}
 use lib.Dec.{eqb, ltb}
 use borrow.Author.Count.{below_more}
 use borrow.Author.Tests.{eqb-true, eqb-false, eq-eqb, ltb-true, ltb-false, not-true, not-false}
-use Rattle.basics.proofs.Booleans.{both_ways, false-true}
+use Rattle.basics.proofs.Booleans.{both_ways, false-true, not_so}
 use Rattle.byte_check.specs.Scan.{first_bad}
 use Rattle.pool.specs.Tables.{Pool}
 use Rattle.pool.specs.Tree.{Shape, same_shape}
 use Rattle.pool.proofs.TreeLaws.{shape_equal, shape_same}
-use Rattle.notation.specs.Classes.{NamesRight, lowest, ClassTable, HashesAlike, slot, Link, Chains}
+use Rattle.notation.specs.Classes.{NamesRight, lowest, ClassTable, HashesAlike, kept_hash, slot, Link, Chains}
 
-pub same_differs : (x y : Shape) → same_shape x y ≡ false → x ≡ y → ⊥
-same_differs x y h e = false-true (sym h ∙ subst (λ (z : Shape). same_shape x z ≡ true) e (shape_same x))
+-- what a test of two trees tells
+pub test_same : (x y : Shape) (v : Bool) → v ≡ same_shape x y → v ≡ true → x ≡ y
+test_same x y v e t = shape_equal x y (sym e ∙ t)
+
+pub test_differs : (x y : Shape) (v : Bool) → v ≡ same_shape x y → v ≡ false → x ≡ y → ⊥
+test_differs x y v e f q = false-true (sym f ∙ e ∙ subst (λ (z : Shape). same_shape x z ≡ true) q (shape_same x))
 
 -- ---- the first row that is not ok
 
@@ -88,6 +92,12 @@ module _ (tree : ℕ → Shape) where
   pub lowest_own : (r : ℕ) → ((k : ℕ) → k < r → tree k ≡ tree r → ⊥) → r ≡ lowest tree r
   lowest_own r h = lowest_unique r r _ _ record { low = omega arith; alike = refl; least = h } (lowest_is r) refl
 
+-- rows of other hashes have other trees
+pub hashes_differ : (t : ClassTable) (p : Pool) → HashesAlike t → NamesRight p → (c r x y : ℕ) → c < t.count p → r < t.count p
+    → x ≡ kept_hash t p c → y ≡ kept_hash t p r → (x ≡ y → ⊥) → false ≡ same_shape (t.tree p c) (t.tree p r)
+hashes_differ t p law right c r x y l m e f n =
+    sym (not_so _ (λ q. n (e ∙ ap (λ (h : ℕ). h % 4294967296) (law p right c r l m (shape_equal _ _ q)) ∙ sym f)))
+
 -- ---- a chain
 
 -- `at` is one more than a row of the chain, or 0, and of the rows from there on and before row r none has its tree
@@ -99,7 +109,7 @@ pub record Reached (t : ClassTable) (p : Pool) (size chain r at : ℕ) : Type 0 
 module _ (t : ClassTable) (p : Pool) (law : HashesAlike t) (right : NamesRight p) (size chain r : ℕ) (row : r < t.count p) (own : chain ≡ slot t p size r) where
   -- rows with equal trees are of one chain
   same_chain : (k : ℕ) → k < r → t.tree p k ≡ t.tree p r → slot t p size k ≡ chain
-  same_chain k h e = ap (λ (n : ℕ). n % size) (law p right k r (omega arith) row e) ∙ sym own
+  same_chain k h e = ap (λ (n : ℕ). n % 4294967296 % size) (law p right k r (omega arith) row e) ∙ sym own
 
   pub reached_first : (at : ℕ) → Link t p size chain r at → Reached t p size chain r at
   reached_first at link = record { low = link.low; own = link.own; other = λ k l m e. link.rest k l m (same_chain k m e) }

@@ -1,4 +1,6 @@
 pub mod Classing
+pub mod HashLaws
+pub mod RepeatLaws
 pub mod StringClasses
 pub mod NameClasses
 pub mod Owning

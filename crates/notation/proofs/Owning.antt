@@ -8,7 +8,7 @@ use lib.ListN.{length, get_or, set}
 use lib.Seq.{get_or-set_same, get_or-set_other}
 use lib.Dec.{ltb, eqb}
 use borrow.Author.Tests.{ltb-true, ltb-false, lt-ltb, eqb-true, eqb-false}
-use Rattle.std.specs.Prelude.{None, Some, is_none}
+use Rattle.std.specs.Prelude.{is_none}
 use Rattle.basics.proofs.Booleans.{and_left, and-false, not_so, false-true, or-true}
 use Rattle.byte_check.specs.Scan.{first_bad, found}
 use Rattle.byte_check.proofs.Scan.{found_none}

@@ -1,11 +1,12 @@
 -- Rows in classes: rows with equal trees are of one class, which goes by the lowest of them. Hashes, which rows with equal trees share.
-use Rattle.std.specs.Prelude.{ℕ, ◌+◌, ◌-◌, ◌*◌, ◌%◌, ◌^◌, ◌<◌, ◌≤◌, Bool, true, ◌&&◌, not, eqb, List, [], ◌∷◌, ◌≡◌, get_or, length, take}
+use Rattle.std.specs.Prelude.{ℕ, ◌+◌, ◌-◌, ◌*◌, ◌%◌, ◌^◌, ◌<◌, ◌≤◌, true, not, List, ◌≡◌, get_or, length}
 use Rattle.pool.specs.Kinds.{NameKind, name_kind, anonymousᵏ, stringᵏ, numberᵏ, noNameᵏ}
-use Rattle.pool.specs.Tables.{Pool, S, N, T, string_word, name_word, string_at}
+use Rattle.pool.specs.Tables.{Pool, S, N, T, name_word, string_at}
 use Rattle.pool.specs.Tree.{Shape, node, none, name_shape, same_shape}
 use Rattle.pool.specs.Unfold.{name_at}
 use Rattle.pool.specs.Rules.{string_ok, name_ok}
 use Rattle.byte_check.specs.Scan.{first_bad}
+use Rattle.notation.specs.Hashes.{bytes_hash, Marked}
 
 -- the rows of the strings and the names keep their rules, and these and the notation rows are few
 pub record NamesRight (p : Pool) : Type 0 where
@@ -33,20 +34,8 @@ Classed tree classes n = (r : ℕ) → r < n → get_or classes r 0 ≡ lowest t
 
 -- ---- hashes
 
--- at most so many bytes of a string are read for its hash
-abbrev pub hashed : ℕ
-hashed = 8192
-
-unfoldable pub bytes_hash : ℕ → List ℕ → ℕ
-bytes_hash h [] = h
-bytes_hash h (b ∷ s) = bytes_hash ((h * 31 + b) % 16777216) s
-
 unfoldable pub string_hash : Pool → ℕ → ℕ
-string_hash p r = length (string_at p r) + bytes_hash 0 (take hashed (string_at p r))
-
--- two strings are the same part of the byte area
-abbrev pub one_part : List ℕ → ℕ → ℕ → Bool
-one_part ns a b = eqb (string_word ns a 0) (string_word ns b 0) && eqb (string_word ns a 1) (string_word ns b 1)
+string_hash p r = length (string_at p r) + bytes_hash 0 (string_at p r)
 
 -- the number of a name row
 abbrev pub number_at : Pool → ℕ → ℕ
@@ -63,22 +52,18 @@ name_hash p r = name_hash_by p r (name_kind (name_word p.names r 0))
 
 -- ---- a table whose rows are put in classes
 
-pub record ClassTable : Type 0 where
+pub record ClassTable : Type 1 where
   pub count : Pool → ℕ
   pub tree : Pool → ℕ → Shape
   pub hash : Pool → ℕ → ℕ
-  -- of how many strings the classes have to be known
-  pub asks : Pool → ℕ
+  -- what a list that was made before says
+  pub Known : Pool → List ℕ → Type 0
 
--- the classes of the strings are known, as far as they matter
-abbrev pub Known : ClassTable → Pool → List ℕ → Type 0
-Known t p strings = (t.asks p ≤ length strings) × (Classed (string_tree p) strings (t.asks p))
-
--- what is known at row r: the classes of the strings, as far as they matter, and of the lower rows
-pub record Lower (t : ClassTable) (p : Pool) (strings classes : List ℕ) (r : ℕ) : Type 0 where
+-- what is known at row r: what was made before, and the classes of the lower rows
+pub record Lower (t : ClassTable) (p : Pool) (given classes : List ℕ) (r : ℕ) : Type 0 where
   pub right : NamesRight p
   pub row : r < t.count p
-  pub known : Known t p strings
+  pub known : t.Known p given
   pub classed : Classed (t.tree p) classes r
   pub room : r < length classes
 
@@ -86,17 +71,33 @@ pub record Lower (t : ClassTable) (p : Pool) (strings classes : List ℕ) (r : �
 abbrev pub HashesAlike : ClassTable → Type 0
 HashesAlike t = (p : Pool) → NamesRight p → (r s : ℕ) → r < t.count p → s < t.count p → t.tree p r ≡ t.tree p s → t.hash p r ≡ t.hash p s
 
+-- for strings, the marks of the byte area are known
+abbrev pub MarksKnown : Pool → List ℕ → Type 0
+MarksKnown p marks = (S p.names ≤ length marks) × (Marked p.bytes marks)
+
 abbrev pub string_table : ClassTable
-string_table = record { count = λ p. S p.names; tree = string_tree; hash = string_hash; asks = λ p. 0 }
+string_table = record { count = λ p. S p.names; tree = string_tree; hash = string_hash; Known = MarksKnown }
+
+-- for names, the classes of the strings are
+abbrev pub StringsKnown : Pool → List ℕ → Type 0
+StringsKnown p strings = (S p.names ≤ length strings) × (Classed (string_tree p) strings (S p.names))
 
 abbrev pub name_table : ClassTable
-name_table = record { count = λ p. N p.names; tree = name_tree; hash = name_hash; asks = λ p. S p.names }
+name_table = record { count = λ p. N p.names; tree = name_tree; hash = name_hash; Known = StringsKnown }
 
 -- ---- rows by their hash
 
+-- the hash of a row as it is kept, in 32 bits
+abbrev pub kept_hash : ClassTable → Pool → ℕ → ℕ
+kept_hash t p r = t.hash p r % 4294967296
+
+-- a list has the hashes of the rows below n
+abbrev pub Hashed : ClassTable → Pool → List ℕ → ℕ → Type 0
+Hashed t p hashes n = (r : ℕ) → r < n → get_or hashes r 0 ≡ kept_hash t p r
+
 -- where the rows of a hash are found, in so many chains
 abbrev pub slot : ClassTable → Pool → ℕ → ℕ → ℕ
-slot t p size r = t.hash p r % size
+slot t p size r = kept_hash t p r % size
 
 -- one more than the greatest row before row n in a chain, or 0 where there is none
 pub record Link (t : ClassTable) (p : Pool) (size chain n link : ℕ) : Type 0 where

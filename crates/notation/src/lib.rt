@@ -2,6 +2,8 @@
 #![tactic(auto)]
 
 mod classes;
+mod compared;
+mod hashes;
 mod names;
 pub mod operators;
 mod strings;

@@ -5,6 +5,7 @@ ghost use Rattle.pool.specs.Views.{read};
 ghost use Rattle.notation.specs.Classes.{name_table};
 
 use crate::classes::Classes;
+use crate::compared::Compared;
 use pool::fields::{NAME_HIGH, NAME_LOW, NAME_PREFIX};
 use pool::kinds::NameKind;
 use pool::names::Names;
@@ -42,23 +43,28 @@ impl Classes for NameRows {
         pool.names.tables.names
     }
 
-    fn hash(pool: &Pool<'_>, strings: &[u32], classes: &[u32], r: usize) -> usize {
+    fn hash(pool: &Pool<'_>, known: &[u32], classes: &[u32], r: usize) -> usize {
         let names = &pool.names;
         let Some(kind) = names.kind(r) else {
             return 0;
         };
         match kind {
             NameKind::Anonymous => 0,
-            NameKind::String => 1
-                + prefix(names, classes, r) * 7919
-                + string(names, strings, r) * 31,
+            NameKind::String => 1 + prefix(names, classes, r) * 7919 + string(names, known, r) * 31,
             NameKind::Number => 2
                 + prefix(names, classes, r) * 7919
                 + number(names, r) % 16777213 * 31,
         }
     }
 
-    fn same(pool: &Pool<'_>, strings: &[u32], classes: &[u32], r: usize, c: usize) -> bool {
+    fn same(
+        pool: &Pool<'_>,
+        known: &[u32],
+        classes: &[u32],
+        _compared: &mut Compared,
+        r: usize,
+        c: usize,
+    ) -> bool {
         let names = &pool.names;
         if names.kind(c) != names.kind(r) {
             return false;
@@ -69,7 +75,7 @@ impl Classes for NameRows {
         match kind {
             NameKind::Anonymous => true,
             NameKind::String => {
-                string(names, strings, c) == string(names, strings, r)
+                string(names, known, c) == string(names, known, r)
                     && prefix(names, classes, c) == prefix(names, classes, r)
             }
             NameKind::Number => {

@@ -4,10 +4,11 @@ ghost use Rattle.pool.specs.Tables.{S, N, T};
 ghost use Rattle.pool.specs.Notation.{notation_ok, notation_fields_ok};
 ghost use Rattle.pool.specs.Views.{read};
 ghost use Rattle.byte_check.specs.Scan.{found};
-ghost use Rattle.notation.specs.Classes.{NamesRight, Classed, name_tree};
+ghost use Rattle.notation.specs.Classes.{NamesRight, Classed, name_tree, string_tree};
 ghost use Rattle.notation.specs.Tables.{FieldsRight, Operators, Owned};
 
 use crate::classes::classify;
+use crate::hashes::mark;
 use crate::names::NameRows;
 use crate::strings::StringRows;
 use pool::fields::{NOTATION_NAME, NOTATION_PRIORITY, NOTATION_STRING};
@@ -79,6 +80,19 @@ fn spread(pool: &Pool<'_>, classes: &[u32], owners: &[u32], table: &mut [u32])
     }
 }
 
+// The classes of the strings of all rows. The marks of the byte area are made for them.
+fn string_classes<const SIZE: usize>(pool: &Pool<'_>, strings: &mut [u32])
+    requires right { NamesRight (read pool.now) }
+    requires rows { S (read pool.now).names ≤ SIZE }
+    requires small { SIZE ≤ 65536 }
+    requires room { S (read pool.now).names ≤ length strings.old }
+    ensures { Classed (string_tree (read pool.now)) strings.new (S (read pool.now).names) }
+{
+    let mut marks = [0u32; SIZE];
+    mark(pool.bytes, &mut marks);
+    classify::<StringRows, SIZE>(pool, &marks, strings);
+}
+
 // The operators of the names of all rows, where SIZE is at least the count of strings and of names; whether no name is given twice.
 pub fn operators<const SIZE: usize>(pool: &Pool<'_>, table: &mut [u32]) -> bool
     requires right { NamesRight (read pool.now) }
@@ -91,7 +105,7 @@ pub fn operators<const SIZE: usize>(pool: &Pool<'_>, table: &mut [u32]) -> bool
     ensures table { result ≡ true → Operators (read pool.now) table.new }
 {
     let mut strings = [0u32; SIZE];
-    classify::<StringRows, SIZE>(pool, &[], &mut strings);
+    string_classes::<SIZE>(pool, &mut strings);
     let mut classes = [0u32; SIZE];
     classify::<NameRows, SIZE>(pool, &strings, &mut classes);
     let mut owners = [0u32; SIZE];

@@ -72,7 +72,8 @@ fn limits_ok(pool: &Pool<'_>) -> bool
     names.strings <= 65536 && (names.names <= 65536 && rest)
 }
 
-// The tables from the levels on, in order; the notation last, since its names have to be right. A return for each, so that each is a goal of its own.
+// The tables from the levels on, in order; the notation last, since its names have to be right. A return for each, so that each is a goal
+// of its own.
 fn check_words(pool: &Pool<'_>) -> Result<(), PoolError>
     requires few { Small (read pool.now) }
     requires right { NamesRight (read pool.now) }

@@ -27,14 +27,14 @@ acting_on-requires c =
 pub returns-then-eq : goal.returns-then-eq
 returns-then-eq c =
     let kind = kind_is _ _ _ _ exprs_placed _ c.expr_kind.ensures App _ c.eq.ensures c.if-eq.true in
-    rw (← acts_on_two c.args.p.now c.args.r c.requires.0 c.requires.1 _ _ (below c.args.p.now _ c.requires.0 c.requires.1 _ c.expr-function.ensures.0) c.expr-function.ensures.0 kind c.expr.ensures.0)
-    c.acting_on.ensures
+    let row = below c.args.p.now _ c.requires.0 c.requires.1 _ c.expr-function.ensures.0 in
+    rw (← acts_on_two c.args.p.now c.args.r c.requires.0 c.requires.1 _ _ row c.expr-function.ensures.0 kind c.expr.ensures.0) c.acting_on.ensures
 
 pub acting_on-requires-2 : goal.acting_on-requires-2
 acting_on-requires-2 c = below c.args.p.now _ c.requires.0 c.requires.1 _ c.expr-function.ensures.0
 
 pub returns : goal.returns
 returns c =
-    rw (← acts_on_one c.args.p.now c.args.r c.requires.0 c.requires.1 _ (below c.args.p.now _ c.requires.0 c.requires.1 _ c.expr-function.ensures.0) c.expr-function.ensures.0
-    (kind_not _ _ _ _ exprs_placed _ c.expr_kind.ensures App _ c.eq.ensures c.if-eq.false))
-    c.acting_on-2.ensures
+    let other = kind_not _ _ _ _ exprs_placed _ c.expr_kind.ensures App _ c.eq.ensures c.if-eq.false in
+    let row = below c.args.p.now _ c.requires.0 c.requires.1 _ c.expr-function.ensures.0 in
+    rw (← acts_on_one c.args.p.now c.args.r c.requires.0 c.requires.1 _ row c.expr-function.ensures.0 other) c.acting_on-2.ensures

@@ -14,24 +14,28 @@ use Rattle.levels.proofs.levels.pp_sort.Goals as goal
 pub returns-then-eq : goal.returns-then-eq
 unfolding emit quoted bytes encode
 returns-then-eq c =
+    let row = level_row _ c.args.pool.now.sound _ c.requires in
     leaves_as c.put_word.ensures
-    (sort_prop (lent c.args.pool.now) c.args.r (level_row _ c.args.pool.now.sound _ c.requires) (level_is _ _ c.level_kind-kind.ensures Zero _ c.eq.ensures c.if-eq.true) _)
+    (sort_prop (lent c.args.pool.now) c.args.r row (level_is _ _ c.level_kind-kind.ensures Zero _ c.eq.ensures c.if-eq.true) _)
 
 pub put_sort-requires : goal.put_sort-requires
 put_sort-requires c =
-    let b : c.level-below.result < c.args.r =
-    rw c.level-below.ensures.0 (succ_below (lent c.args.pool.now) c.args.r (level_row _ c.args.pool.now.sound _ c.requires) (level_is _ _ c.level_kind-kind.ensures Succ _ c.eq-2.ensures c.if-eq-2.true)) in
+    let row = level_row _ c.args.pool.now.sound _ c.requires in
+    let succ = level_is _ _ c.level_kind-kind.ensures Succ _ c.eq-2.ensures c.if-eq-2.true in
+    let b : c.level-below.result < c.args.r = rw c.level-below.ensures.0 (succ_below (lent c.args.pool.now) c.args.r row succ) in
     omega (arith, c.requires)
 
 pub returns-then-eq-2 : goal.returns-then-eq-2
 unfolding emit quoted bytes encode
 returns-then-eq-2 c =
-    leaves_as c.put_sort.ensures
-    (rw c.level-below.ensures.0 (sort_type (lent c.args.pool.now) c.args.r (level_row _ c.args.pool.now.sound _ c.requires) (level_is _ _ c.level_kind-kind.ensures Succ _ c.eq-2.ensures c.if-eq-2.true) _))
+    let row = level_row _ c.args.pool.now.sound _ c.requires in
+    let succ = level_is _ _ c.level_kind-kind.ensures Succ _ c.eq-2.ensures c.if-eq-2.true in
+    leaves_as c.put_sort.ensures (rw c.level-below.ensures.0 (sort_type (lent c.args.pool.now) c.args.r row succ _))
 
 pub returns : goal.returns
 unfolding emit quoted bytes encode
 returns c =
-    leaves_as c.put_sort-2.ensures
-    (sort_sort (lent c.args.pool.now) c.args.r (level_row _ c.args.pool.now.sound _ c.requires) (level_not _ _ c.level_kind-kind.ensures Zero _ c.eq.ensures c.if-eq.false)
-    (level_not _ _ c.level_kind-kind.ensures Succ _ c.eq-2.ensures c.if-eq-2.false) _)
+    let row = level_row _ c.args.pool.now.sound _ c.requires in
+    let zero = level_not _ _ c.level_kind-kind.ensures Zero _ c.eq.ensures c.if-eq.false in
+    let succ = level_not _ _ c.level_kind-kind.ensures Succ _ c.eq-2.ensures c.if-eq-2.false in
+    leaves_as c.put_sort-2.ensures (sort_sort (lent c.args.pool.now) c.args.r row zero succ _)

@@ -23,6 +23,6 @@ returns c =
     let a = c.args in
     let m : Marked = root_doc a.root (options a.indent (lent a.pool)) (lent a.pool) in
     let areas : Areas = record { rows = a.rows.now; text = a.text.now; listing = a.listing.now } in
+    let fine = root_fine a.root a.indent c.requires.begins.indent_small (lent a.pool) in
     c.finish.ensures
-    ∙ finished_after m (root_fine a.root a.indent c.requires.begins.indent_small (lent a.pool)) a.width areas _ _ c.new-sink.ensures.is c.print.ensures (search rules) (search rules) (search rules) (search
-    rules)
+    ∙ finished_after m fine a.width areas _ _ c.new-sink.ensures.is c.print.ensures (search rules) (search rules) (search rules) (search rules)

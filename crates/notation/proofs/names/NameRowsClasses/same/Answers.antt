@@ -7,14 +7,14 @@ use mathlib.Core.Path.{refl, sym, ◌∙◌}
 use native.Mathlib.Omega.{arith}
 use Rattle.notation.proofs.names.NameRowsClasses.same.Goals as goal
 
-pub returns-then-ne : goal.returns-then-ne
-returns-then-ne c =
+pub returns-then-ne-clause-same : goal.returns-then-ne-clause-same
+returns-then-ne-clause-same c =
     let p = read c.args.pool.now in
     let lower : c.args.c < N p.names = omega arith in
     kinds_unequal p c.requires.lower.right c.args.c c.args.r lower c.requires.lower.row _ _ c.kind.ensures c.kind-2.ensures _ c.ne.ensures c.if-ne.true
 
-pub returns-in_default : goal.returns-in_default
-returns-in_default c =
+pub returns-in_default-clause-same : goal.returns-in_default-clause-same
+returns-in_default-clause-same c =
     let p = read c.args.pool.now in
     let lower : c.args.c < N p.names = omega arith in
     let small = kind_small p c.requires.lower.right c.args.c lower in
@@ -71,16 +71,16 @@ prefix-requires-then-number-2 c =
     let refers = number_refers p c.requires.lower.right c.args.r c.requires.lower.row (sym same_kind ∙ kind) in
     omega arith
 
-pub returns-in-Anonymous : goal.returns-in-Anonymous
-returns-in-Anonymous c =
+pub returns-in-Anonymous-clause-same : goal.returns-in-Anonymous-clause-same
+returns-in-Anonymous-clause-same c =
     let p = read c.args.pool.now in
     let lower : c.args.c < N p.names = omega arith in
     let kind = word_of _ _ _ c.in-Some.ensures c.in-Anonymous.is in
     let same_kind = kinds_equal p c.requires.lower.right c.args.c c.args.r lower c.requires.lower.row _ _ c.kind.ensures c.kind-2.ensures _ c.ne.ensures c.if-ne.false in
     both_anonymous p c.requires.lower.right c.args.c c.args.r lower c.requires.lower.row kind (sym same_kind ∙ kind)
 
-pub returns-then-string : goal.returns-then-string
-returns-then-string c =
+pub returns-then-string-clause-same : goal.returns-then-string-clause-same
+returns-then-string-clause-same c =
     let p = read c.args.pool.now in
     let lower : c.args.c < N p.names = omega arith in
     let kind = word_of _ _ _ c.in-Some.ensures c.in-String.is in
@@ -93,8 +93,8 @@ returns-then-string c =
     (c.prefix.ensures.0 ∙ c.requires.lower.classed _ (omega arith)) (c.prefix-then-string.ensures.0 ∙ c.requires.lower.classed _ refers_r.0))
     c.if-string.true
 
-pub returns-else-string : goal.returns-else-string
-returns-else-string c =
+pub returns-else-string-clause-same : goal.returns-else-string-clause-same
+returns-else-string-clause-same c =
     let p = read c.args.pool.now in
     let lower : c.args.c < N p.names = omega arith in
     let kind = word_of _ _ _ c.in-Some.ensures c.in-String.is in
@@ -106,8 +106,8 @@ returns-else-string c =
     (c.string.ensures.0 ∙ c.requires.lower.known.1 _ refers_c.1) (c.string-in-String.ensures.0 ∙ c.requires.lower.known.1 _ refers_r.1) refl refl)
     c.if-string.false
 
-pub returns-then-number : goal.returns-then-number
-returns-then-number c =
+pub returns-then-number-clause-same : goal.returns-then-number-clause-same
+returns-then-number-clause-same c =
     let p = read c.args.pool.now in
     let lower : c.args.c < N p.names = omega arith in
     let kind = word_of _ _ _ c.in-Some.ensures c.in-Number.is in
@@ -120,8 +120,8 @@ returns-then-number c =
     (c.prefix-then-number.ensures.0 ∙ c.requires.lower.classed _ (omega arith)) (c.prefix-then-number-2.ensures.0 ∙ c.requires.lower.classed _ refers_r))
     c.if-number.true
 
-pub returns-else-number : goal.returns-else-number
-returns-else-number c =
+pub returns-else-number-clause-same : goal.returns-else-number-clause-same
+returns-else-number-clause-same c =
     let p = read c.args.pool.now in
     let lower : c.args.c < N p.names = omega arith in
     let kind = word_of _ _ _ c.in-Some.ensures c.in-Number.is in

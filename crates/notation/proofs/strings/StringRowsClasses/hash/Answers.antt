@@ -1,13 +1,15 @@
 use Rattle.pool.specs.Views.{read}
-use Rattle.notation.specs.Classes.{bytes_hash}
-use Rattle.notation.proofs.StringClasses.{string_hash_is}
-use lib.ListN.{take}
-use mathlib.Core.Path.{ap, ◌∙◌}
-use Prim.Native.Nat.{ℕ}
+use Rattle.notation.proofs.StringClasses.{string_inside, string_hash_is}
+use mathlib.Core.Path.{refl}
+use native.Mathlib.Omega.{arith}
 use Rattle.notation.proofs.strings.StringRowsClasses.hash.Goals as goal
+
+pub part_hash-requires-clause-inside : goal.part_hash-requires-clause-inside
+part_hash-requires-clause-inside c =
+    let inside = string_inside (read c.args.pool.now) c.args.r (c.requires.right.strings c.args.r c.requires.row) in
+    omega arith
 
 pub returns : goal.returns
 returns c =
-    let s = c.string_at-string.result.now in
-    string_hash_is (read c.args.pool.now) c.args.r c.hash_of.result s (c.string_at-string.ensures c.args.pool.now.words.words.now)
-    (c.hash_of.ensures.0 ∙ ap (λ (n : ℕ). bytes_hash 0 (take n s)) c.min.ensures)
+    string_hash_is (read c.args.pool.now) c.args.r (c.requires.right.strings c.args.r c.requires.row) c.string-from.result _ c.string-size.result _
+    c.string-from.ensures.0 c.string-size.ensures.0 refl c.part_hash.ensures.0

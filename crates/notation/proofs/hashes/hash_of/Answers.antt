@@ -1,7 +1,7 @@
-use Rattle.notation.proofs.StringClasses.{bytes_step, bytes_end}
+use Rattle.notation.proofs.HashLaws.{bytes_step, bytes_end}
 use mathlib.Core.Path.{sym, ◌∙◌}
 use native.Mathlib.Omega.{arith}
-use Rattle.notation.proofs.strings.hash_of.Goals as goal
+use Rattle.notation.proofs.hashes.hash_of.Goals as goal
 
 pub loop-b-preserved : goal.loop-b-preserved
 loop-b-preserved c =
