@@ -177,6 +177,7 @@ def turned_operands():
     equal, more = apply(const("add"), const("a"), const("a")), apply(SUM, const("c"))
     return [difference("infix, two operands", SUM, "@a+@b", "@b+@a", notation=[ADD]),
             difference("infix, equal operands: outside the domain, yet equal", equal, "@a+@a", "@a+@a", notation=[ADD]),
+            difference("infix, one argument: outside the domain, yet equal", apply(const("add"), const("a")), "@add @a", "@add @a", notation=[ADD]),
             difference("infix, three arguments: outside the domain, yet equal", more, "@add @a @b @c", "@add @a @b @c", notation=[ADD])]
 
 

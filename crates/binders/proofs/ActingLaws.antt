@@ -1,9 +1,7 @@
 -- Which operator acts on an application: what the code reads of the table and of the application's rows.
 use Prim.Native.Nat.{ℕ, zero, suc, ◌-◌, ◌<◌, ◌≤◌}
 use native.Mathlib.Omega.{arith}
-use mathlib.Core.Bool.{true, false, cond}
 use mathlib.Core.Path.{◌≡◌, refl, sym, ap, ◌∙◌}
-use lib.Dec.{eqb}
 use lib.ListN.{length, get_or}
 use borrow.Author.Tests.{eq-eqb, ne_eqb}
 use Rattle.std.specs.Prelude.{Option, None, Some}
@@ -15,7 +13,6 @@ use Rattle.pool.specs.Tree.{Name, Expr, var, sort, const, app, pi, lam, letᵉ, 
 use Rattle.pool.specs.Unfold.{name_at, expr_at}
 use Rattle.pool.proofs.ExprUnfolds.{const_at, app_at, label_word}
 use Rattle.pool.proofs.TreeLaws.{label}
-use Rattle.notation.specs.Tables.{entry_of}
 use Rattle.notation.proofs.Entries.{entry_says}
 use Rattle.binders.specs.Acting.{operands, argument_count, acting_on, acting, constant_operator}
 use Rattle.binders.specs.Operators.{head_operator}

@@ -1,5 +1,5 @@
 -- Document 02, P5: what an operator makes of its operands, and which operator a head has.
-use Rattle.std.specs.Prelude.{ℕ, ◌-◌, Option, None}
+use Rattle.std.specs.Prelude.{◌-◌, Option, None}
 use Rattle.document.specs.Walk.{Marked, textᵐ, breakᵐ}
 use Rattle.pool.specs.Notation.{Operator}
 use Rattle.pool.specs.Tree.{Expr, var, sort, const, app, pi, lam, letᵉ, proj, nat, str}

@@ -1,13 +1,12 @@
 -- Laws of the call: what each of its ends answers.
 use Prim.Native.Nat.{ℕ, ◌<◌, ◌≤◌}
-use mathlib.Core.Bool.{Bool, true, false, ◌&&◌}
+use mathlib.Core.Bool.{true, false, ◌&&◌}
 use mathlib.Core.List.{List}
 use mathlib.Core.Path.{◌≡◌, refl, sym, ap, ◌∙◌, subst}
 use lib.Dec.{ltb}
 use borrow.Author.Tests.{lt-ltb, le-ltb}
 use Rattle.basics.proofs.Booleans.{and_intro, and-false}
-use Rattle.std.specs.Prelude.{Option, Some, None, Result, Ok, Err}
-use Rattle.std.specs.Result.{IsErrAnd}
+use Rattle.std.specs.Prelude.{Some, None, Ok, Err}
 use Rattle.pool.specs.Tables.{Pool, E, pool}
 use Rattle.pool_check.specs.declared.PoolError.{PoolError}
 use Rattle.pool_check.specs.Check.{verdict}
@@ -17,7 +16,7 @@ use Rattle.difference.specs.Order.{first_pair}
 use Rattle.difference.specs.Walks.{Compares}
 use Rattle.comparison.specs.declared.error.CompareError.TheVariants.{Root}
 use Rattle.comparison.specs.declared.error.CompareError.TheVariants as errors
-use Rattle.comparison.specs.Call.{Answer, answer_of, decided, comparison}
+use Rattle.comparison.specs.Call.{answer_of, decided, comparison}
 
 -- a row that is not there
 pub first_missing : (first second n : ℕ) → n ≤ first → ltb first n && ltb second n ≡ false

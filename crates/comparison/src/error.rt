@@ -8,7 +8,7 @@ use std::fmt;
 
 #[derive(Clone, Copy, Debug, PartialEq, Eq)]
 pub enum CompareError {
-    // 1 to 4: what check finds.
+    // 1 to 4 and 31: what check finds.
     Pool { error: PoolError },
     // 5: one of the rows is missing.
     Root,

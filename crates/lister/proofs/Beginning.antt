@@ -23,7 +23,7 @@ abbrev pub kept : Answer → Areas → Outcome
 kept answer areas = record { answer = answer; areas = areas }
 
 module _ (source : Source) (root : Root) (indent width : ℕ) (areas : Areas) where
-  -- 1 to 4
+  -- 1 to 4 and 31
   pub pool_refused : (e : PoolError) → judged source ≡ Err e → kept (Err (of_pool e)) areas ≡ print source root indent width areas
   unfolding print_with checked untouched
   pool_refused e j = rw j

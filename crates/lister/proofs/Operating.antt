@@ -1,20 +1,18 @@
 -- The table of operators of a checked pool.
-use Prim.Native.Nat.{ℕ, ◌<◌}
-use native.Mathlib.Omega.{arith}
+use Prim.Native.Nat.{ℕ}
 use mathlib.Core.Bool.{true}
-use mathlib.Core.List.{List, []}
-use mathlib.Core.Path.{◌≡◌, refl, sym, ap}
+use mathlib.Core.List.{[]}
+use mathlib.Core.Path.{◌≡◌, ap}
 use Rattle.std.specs.Prelude.{is_none}
 use Rattle.byte_check.specs.Scan.{found}
 use Rattle.byte_check.proofs.Scan.{found_none}
 use Rattle.pool.specs.Notation.{notation_fields_ok, notation_ok}
 use Rattle.pool.specs.Sound.{Sound}
-use Rattle.pool.specs.Tables.{Pool, N, T}
-use Rattle.pool.specs.Tree.{Name}
+use Rattle.pool.specs.Tables.{Pool, T}
 use Rattle.basics.proofs.Booleans.{and_left}
 use Rattle.declarations.specs.declared.listing.Root.{Root}
 use Rattle.notation.specs.Classes.{NamesRight}
-use Rattle.notation.specs.Tables.{FieldsRight, Operators, entry_from, entry_of}
+use Rattle.notation.specs.Tables.{FieldsRight, Operators, entry_from}
 use Rattle.lister.specs.Stages.{Begins}
 
 module _ (p : Pool) (sound : Sound p) where

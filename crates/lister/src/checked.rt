@@ -48,7 +48,7 @@ fn finish(
     }
 }
 
-// The same with the operators of the pool's names in a table by name row, which is empty where there is no notation.
+// The print of a root, with the operators of the pool's names in a table by name row, which is empty where there is no notation.
 fn print_with(
     pool: CheckedPool<'_>,
     operators: &[u32],
@@ -100,6 +100,7 @@ fn print_in<const SIZE: usize>(
         names: pool.names,
         words: pool.words,
     };
+    // True, as check has refused a name that is given twice.
     operators::<SIZE>(&given, &mut table);
     print_with(pool, &table, root, indent, width, rows, text, listing)
 }

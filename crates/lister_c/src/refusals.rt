@@ -1,4 +1,4 @@
-// Why a call is refused: a number of document 01 and its place.
+// Why a call is refused: a number of documents 01 and 02, and its place.
 ghost use Rattle.std.specs.Prelude.{◌≡◌, ℕ, Err};
 ghost use Rattle.pool_check.specs.Check as check;
 ghost use Rattle.layout.specs.Call as call;

@@ -6,6 +6,8 @@ use mathlib.Core.List.{List}
 use mathlib.Core.Path.{◌≡◌, refl, sym, ap, ◌∙◌, subst}
 use lib.ListN.{length, get_or, set, length-set}
 use lib.Seq.{get_or-set_same, get_or-set_other}
+use Rattle.std.specs.Prelude.{replicate}
+use Rattle.std.proofs.lemmas.List.{get_or-replicate}
 use lib.Dec.{eqb, ltb}
 use borrow.Author.Count.{below_more}
 use borrow.Author.Tests.{eqb-true, eqb-false, eq-eqb, ltb-true, ltb-false, not-true, not-false}
@@ -137,6 +139,13 @@ module _ (t : ClassTable) (p : Pool) (law : HashesAlike t) (right : NamesRight p
 -- ---- the rows by their hash
 
 module _ (t : ClassTable) (p : Pool) where
+  -- of no row
+  pub chains_begin : (heads below : List ℕ) → heads ≡ replicate (length heads) 0 → Chains t p (length heads) heads below 0
+  chains_begin heads below e = record { last = λ h l. first h _ (ap (λ (hs : List ℕ). get_or hs h 0) e ∙ get_or-replicate (length heads) h 0 0 l); before = λ k l. absurd (omega arith) }
+    where
+      first : (h link : ℕ) → link ≡ 0 → Link t p (length heads) h 0 link
+      first h link q = record { low = omega arith; own = λ l. absurd (omega arith); rest = λ j l m x. absurd (omega arith) }
+
   -- one row more
   chains_with : (size chain r : ℕ) (heads below : List ℕ) → size ≡ length heads → chain < size → r < length below → slot t p size r ≡ chain
       → Chains t p size heads below r → Chains t p size (set heads chain (r + 1)) (set below r (get_or heads chain 0)) (r + 1)

@@ -1,5 +1,5 @@
 -- Names by their last components and the classes of what those are made of: when their trees are equal, and that their hashes are then.
-use Prim.Native.Nat.{ℕ, zero, suc, ◌+◌, ◌*◌, ◌%◌, ◌≤◌, ◌<◌}
+use Prim.Native.Nat.{ℕ, zero, suc, ◌≤◌, ◌<◌}
 use native.Mathlib.Omega.{arith}
 use mathlib.Core.Bool.{Bool, true, false, not, ◌&&◌}
 use mathlib.Core.List.{List}
@@ -21,6 +21,7 @@ use Rattle.pool.specs.Unfold.{name_node, name_at}
 use Rattle.pool.specs.Rules.{name_fields_ok, name_ok}
 use Rattle.pool.proofs.TreeLaws.{label, labels_differ, shape_same}
 use Rattle.pool.proofs.Unfolds.{NamesKept, name_unfolds}
+use Rattle.notation.specs.Hashes.{mixed}
 use Rattle.notation.specs.Classes.{NamesRight, lowest, string_tree, name_tree, number_at, name_hash, name_hash_by, HashesAlike, name_table}
 use Rattle.notation.proofs.Classing.{alike_lowest, lowest_test}
 use Rattle.notation.proofs.StringClasses.{bytes_test}
@@ -116,14 +117,14 @@ unfolding name_hash_by name_kind
 hash_anonymous p r e = hash_at p r 0 e
 
 pub hash_string : (p : Pool) (r x y : ℕ) → name_word p.names r 0 ≡ 1 → x ≡ lowest (name_tree p) (name_word p.names r 1)
-    → y ≡ lowest (string_tree p) (name_word p.names r 2) → 1 + x * 7919 + y * 31 ≡ name_hash p r
+    → y ≡ lowest (string_tree p) (name_word p.names r 2) → mixed 1 x y ≡ name_hash p r
 unfolding name_hash_by name_kind
-hash_string p r x y e a b = ap₂ (λ (m n : ℕ). 1 + m * 7919 + n * 31) a b ∙ hash_at p r 1 e
+hash_string p r x y e a b = ap₂ (mixed 1) a b ∙ hash_at p r 1 e
 
 pub hash_number : (p : Pool) (r x n : ℕ) → name_word p.names r 0 ≡ 2 → x ≡ lowest (name_tree p) (name_word p.names r 1) → n ≡ number_at p r
-    → 2 + x * 7919 + n % 16777213 * 31 ≡ name_hash p r
+    → mixed 2 x n ≡ name_hash p r
 unfolding name_hash_by name_kind
-hash_number p r x n e a b = ap₂ (λ (m k : ℕ). 2 + m * 7919 + k % 16777213 * 31) a b ∙ hash_at p r 2 e
+hash_number p r x n e a b = ap₂ (mixed 2) a b ∙ hash_at p r 2 e
 
 -- ---- equal trees
 

@@ -6,7 +6,7 @@ use Rattle.pool.specs.Tree.{Shape, node, none, name_shape, same_shape}
 use Rattle.pool.specs.Unfold.{name_at}
 use Rattle.pool.specs.Rules.{string_ok, name_ok}
 use Rattle.byte_check.specs.Scan.{first_bad}
-use Rattle.notation.specs.Hashes.{bytes_hash, Marked}
+use Rattle.notation.specs.Hashes.{bytes_hash, Marked, mixed}
 
 -- the rows of the strings and the names keep their rules, and these and the notation rows are few
 pub record NamesRight (p : Pool) : Type 0 where
@@ -43,8 +43,8 @@ number_at p r = name_word p.names r 2 + name_word p.names r 3 * 2 ^ 32
 
 unfoldable pub name_hash_by : Pool → ℕ → NameKind → ℕ
 name_hash_by p r anonymousᵏ = 0
-name_hash_by p r stringᵏ = 1 + lowest (name_tree p) (name_word p.names r 1) * 7919 + lowest (string_tree p) (name_word p.names r 2) * 31
-name_hash_by p r numberᵏ = 2 + lowest (name_tree p) (name_word p.names r 1) * 7919 + number_at p r % 16777213 * 31
+name_hash_by p r stringᵏ = mixed 1 (lowest (name_tree p) (name_word p.names r 1)) (lowest (string_tree p) (name_word p.names r 2))
+name_hash_by p r numberᵏ = mixed 2 (lowest (name_tree p) (name_word p.names r 1)) (number_at p r)
 name_hash_by p r noNameᵏ = 0
 
 unfoldable pub name_hash : Pool → ℕ → ℕ

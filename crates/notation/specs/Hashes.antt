@@ -6,6 +6,10 @@ unfoldable pub bytes_hash : ℕ → List ℕ → ℕ
 bytes_hash h [] = h
 bytes_hash h (b ∷ s) = bytes_hash ((h * 16777619 + b) % 2147483647) s
 
+-- of a kind, a class, and a class or a number
+unfoldable pub mixed : ℕ → ℕ → ℕ → ℕ
+mixed kind prefix last = (kind + prefix * 7919 + last % 2147483647 * 16777619) % 2147483647
+
 -- how many bytes stand between two marks of an area, of so many
 abbrev pub gap : List ℕ → ℕ → ℕ
 gap bytes count = length bytes / max count 1 + 1

@@ -95,8 +95,8 @@ fn find<C: Classes>(
     r
 }
 
-// The classes of all rows. `heads` has the last row of each chain, and is empty at first; `below` gets the row before each in its chain,
-// and `hashes` the hash of each.
+// The classes of all rows. `heads` has one more than the last row of each chain, and 0 for none, as it is at first; `below` gets the same of
+// the row before each in its chain, and `hashes` the hash of each.
 fn classify_by<C: Classes>(
     pool: &Pool<'_>,
     known: &[u32],

@@ -1,6 +1,6 @@
 // Hashes of bytes. The hash of any part of an area is had in little time, from those of the bytes before some places of the area.
 ghost use Rattle.std.specs.Prelude.{◌≡◌, ◌+◌, ◌-◌, ◌%◌, ◌^◌, ◌<◌, ◌≤◌, length, take, drop};
-ghost use Rattle.notation.specs.Hashes.{bytes_hash, gap, Marked};
+ghost use Rattle.notation.specs.Hashes.{bytes_hash, gap, mixed, Marked};
 
 const BASE: usize = 16777619;
 
@@ -16,6 +16,15 @@ fn hash_of(start: usize, bytes: &[u8]) -> usize
         hash = (hash * BASE + usize::from(*b)) % MODULUS;
     }
     hash
+}
+
+// The hash of a kind, a class, and a class or a number: by a prime, so that numbers with a factor in common do not share their chains.
+#[tactic(auto, unfolding(crate::specs::Hashes::mixed))]
+pub(crate) fn mixed(kind: usize, prefix: usize, last: usize) -> usize
+    requires { (kind < 4) × (prefix < 4294967296) }
+    ensures { result ≡ mixed kind prefix last }
+{
+    (kind + prefix * 7919 + last % MODULUS * BASE) % MODULUS
 }
 
 fn gap(bytes: &[u8], count: usize) -> usize
@@ -39,7 +48,7 @@ pub(crate) fn mark(bytes: &[u8], marks: &mut [u32])
     }
 }
 
-// The hash of the first n bytes: of those from the last mark on alone, which are few.
+// The hash of the first n bytes: of those from the last mark on alone, which are fewer than the marks are apart.
 fn hash_before(bytes: &[u8], marks: &[u32], n: usize) -> usize
     requires marks { Marked bytes.now marks.now }
     requires some { 0 < length marks.now }

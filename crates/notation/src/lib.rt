@@ -6,4 +6,5 @@ mod compared;
 mod hashes;
 mod names;
 pub mod operators;
+mod runs;
 mod strings;

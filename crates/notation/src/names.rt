@@ -6,6 +6,7 @@ ghost use Rattle.notation.specs.Classes.{name_table};
 
 use crate::classes::Classes;
 use crate::compared::Compared;
+use crate::hashes::mixed;
 use pool::fields::{NAME_HIGH, NAME_LOW, NAME_PREFIX};
 use pool::kinds::NameKind;
 use pool::names::Names;
@@ -50,10 +51,8 @@ impl Classes for NameRows {
         };
         match kind {
             NameKind::Anonymous => 0,
-            NameKind::String => 1 + prefix(names, classes, r) * 7919 + string(names, known, r) * 31,
-            NameKind::Number => 2
-                + prefix(names, classes, r) * 7919
-                + number(names, r) % 16777213 * 31,
+            NameKind::String => mixed(1, prefix(names, classes, r), string(names, known, r)),
+            NameKind::Number => mixed(2, prefix(names, classes, r), number(names, r)),
         }
     }
 

@@ -44,7 +44,7 @@ fn all_fields_ok(pool: &Pool<'_>) -> bool
     true
 }
 
-// The notation row of each class of names that has one, and one more; whether none is given twice.
+// One more than the notation row of each class of names, 0 for a class without one; whether none is given twice.
 fn owners_of(pool: &Pool<'_>, classes: &[u32], owners: &mut [u32]) -> bool
     requires few { T (read pool.now).words ≤ 65536 }
     requires fields { FieldsRight (read pool.now) }
@@ -93,7 +93,9 @@ fn string_classes<const SIZE: usize>(pool: &Pool<'_>, strings: &mut [u32])
     classify::<StringRows, SIZE>(pool, &marks, strings);
 }
 
-// The operators of the names of all rows, where SIZE is at least the count of strings and of names; whether no name is given twice.
+// The operators of the names of all rows, where SIZE is at least the count of strings and of names; whether no name is given twice. Not
+// inlined: its tables would stay in the frame of a print.
+#[inline(never)]
 pub fn operators<const SIZE: usize>(pool: &Pool<'_>, table: &mut [u32]) -> bool
     requires right { NamesRight (read pool.now) }
     requires fields { FieldsRight (read pool.now) }

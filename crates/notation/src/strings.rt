@@ -18,14 +18,15 @@ impl Classes for StringRows {
         pool.names.tables.strings
     }
 
-    // Of all bytes: strings can overlap, so all of them together can be far longer than the area, and none is read here.
+    // Of all bytes. Strings can overlap, so all of them together can be far longer than the area: what is read for a hash are the bytes from
+    // the mark before each of its two ends.
     fn hash(pool: &Pool<'_>, known: &[u32], _classes: &[u32], r: usize) -> usize {
         let from = pool.names.string(r, STRING_OFFSET);
         let size = pool.names.string(r, STRING_LENGTH);
         size + part_hash(pool.bytes, known, from, from + size)
     }
 
-    // Strings that begin together are not read, and of others only what was not compared before.
+    // Strings that begin together are not read, and of others only what is not known of comparisons before.
     fn same(
         pool: &Pool<'_>,
         _known: &[u32],

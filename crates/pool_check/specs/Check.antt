@@ -7,7 +7,7 @@ use Rattle.pool.specs.Notation.{notation_ok}
 use Rattle.pool.specs.Rules.{last_projection, string_ok, name_ok, level_ok, list_ok, list_entry_ok, expr_ok_with, declar_ok}
 use Rattle.byte_check.specs.Scan.{first_bad}
 
--- 01's number of each case, 0 for none
+-- the number of each case, 0 for none
 unfoldable pub number : Result Unit PoolError → ℕ
 number (Ok _) = 0
 number (Err Words) = 1

@@ -44,7 +44,9 @@ impl fmt::Display for PoolError {
             PoolError::Limit => f.write_str("a count or the byte area is over its limit"),
             PoolError::Strings { row } => write!(f, "row {row} of the strings breaks a rule"),
             PoolError::Rows { row } => write!(f, "row {row} of another table breaks a rule"),
-            PoolError::Notation => f.write_str("a notation row breaks a rule"),
+            PoolError::Notation => f.write_str(
+                "a notation row breaks a rule, or a name has two operators",
+            ),
         }
     }
 }
@@ -72,8 +74,8 @@ fn limits_ok(pool: &Pool<'_>) -> bool
     names.strings <= 65536 && (names.names <= 65536 && rest)
 }
 
-// The tables from the levels on, in order; the notation last, since its names have to be right. A return for each, so that each is a goal
-// of its own.
+// The tables from the levels on, in order; the notation last, since 31 comes after every 4. A return for each, so that each is a goal of
+// its own.
 fn check_words(pool: &Pool<'_>) -> Result<(), PoolError>
     requires few { Small (read pool.now) }
     requires right { NamesRight (read pool.now) }

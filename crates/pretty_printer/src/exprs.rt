@@ -1,11 +1,11 @@
 // Expressions: one call cycle. Each call goes to a lower row, or on the same row from what follows a part of a chain to a part or an
-// expression, from an expression to a chain, from a chain to its parts, and from a part to its groups. The stack of names goes by
-// value, but to `pp_part`, `pp_inside` and the parts of `pp_operator`: these are inlined, and stand in no frame that would hold a copy.
-ghost use Rattle.std.specs.Prelude.{◌≡◌, true, ◌<◌, ◌≤◌};
+// expression, from an expression to an application, an operator, a let or a chain, from an operator to what its kind puts, from a let to its
+// head and body, from a chain to its parts, and from a part to its groups. The stack of names goes by value, but to `pp_part`, `pp_inside`
+// and the parts of `pp_operator`: these are inlined, and stand in no frame that would hold a copy.
+ghost use Rattle.std.specs.Prelude.{◌≡◌, true, ◌<◌, ◌≤◌, None};
 ghost use Rattle.document.specs.Walk.{textᵐ};
 ghost use Rattle.pool.specs.Notation.{operator_at};
 ghost use Rattle.pool.specs.Tables.{T, expr_word, notation_word};
-ghost use Rattle.std.specs.Prelude.{None};
 ghost use Rattle.binders.specs.Acting.{acting};
 ghost use Rattle.binders.specs.Options.{options_of, pool_of};
 ghost use Rattle.pool.specs.Unfold.{name_at, expr_at};

@@ -3,7 +3,6 @@ use Rattle.pool.proofs.ExprUnfolds.{const_ok}
 use Rattle.pool.proofs.Standing.{exprs_placed, kind_is, kind_not}
 use Rattle.pool.specs.declared.kinds.ExprKind.TheVariants.{Const}
 use Rattle.binders.specs.Options.{pool_of}
-use Rattle.binders.specs.Acting.{Gives}
 use Rattle.binders.proofs.operators.acting_on.Goals as goal
 
 pub of_name-requires : goal.of_name-requires

@@ -1,7 +1,7 @@
 use Rattle.pool.specs.Views.{read}
 use Rattle.pool.proofs.Unfolds.{depths_more}
 use Rattle.notation.specs.Classes.{lowest, kept_hash}
-use Rattle.notation.proofs.Classing.{lowest_is, chains_more}
+use Rattle.notation.proofs.Classing.{lowest_is, chains_begin, chains_more}
 use Prim.Native.Nat.{ℕ, ◌%◌, ◌<◌}
 use lib.ListN.{length}
 use mathlib.Core.Path.{ap}
@@ -12,6 +12,17 @@ pub overflow_cast-classes : goal.overflow_cast-classes
 overflow_cast-classes g c =
     let low = (lowest_is (g.C.Classes.table.tree (read c.args.pool.now)) c.loop-r.r).low in
     omega (arith, c.find-class.ensures.class, low)
+
+pub loop-r-init : goal.loop-r-init
+loop-r-init g c =
+    let t = g.C.Classes.table in
+    let p = read c.args.pool.now in
+    record {
+      chains = chains_begin t p c.args.heads.now c.args.below.now c.requires.empty;
+      hashed = λ k l. absurd (omega arith);
+      classed = λ k l. absurd (omega arith);
+      compared = c.nothing-compared.ensures p.bytes;
+    }
 
 pub find-class-requires-clause-hashed : goal.find-class-requires-clause-hashed
 find-class-requires-clause-hashed g c =

@@ -33,11 +33,11 @@ returns-in-String c =
     let p = read c.args.pool.now in
     let kind = word_of _ _ _ c.in-Some.ensures c.in-String.is in
     let refers = string_refers p c.requires.right c.args.r c.requires.row kind in
-    hash_string p c.args.r _ _ kind (c.prefix.ensures.0 ∙ c.requires.classed _ refers.0) (c.string.ensures.0 ∙ c.requires.known.1 _ refers.1)
+    c.mixed.ensures ∙ hash_string p c.args.r _ _ kind (c.prefix.ensures.0 ∙ c.requires.classed _ refers.0) (c.string.ensures.0 ∙ c.requires.known.1 _ refers.1)
 
 pub returns-in-Number : goal.returns-in-Number
 returns-in-Number c =
     let p = read c.args.pool.now in
     let kind = word_of _ _ _ c.in-Some.ensures c.in-Number.is in
     let refers = number_refers p c.requires.right c.args.r c.requires.row kind in
-    hash_number p c.args.r _ _ kind (c.prefix-in-Number.ensures.0 ∙ c.requires.classed _ refers) c.number.ensures
+    c.mixed-in-Number.ensures ∙ hash_number p c.args.r _ _ kind (c.prefix-in-Number.ensures.0 ∙ c.requires.classed _ refers) c.number.ensures
