@@ -125,7 +125,8 @@ pub(crate) fn print_checked(
     let names = pool.names.tables;
     match names.strings.max(names.names) {
         0..=64 => print_in::<64>(pool, root, indent, width, rows, text, listing),
-        65..=4096 => print_in::<4096>(pool, root, indent, width, rows, text, listing),
+        65..=512 => print_in::<512>(pool, root, indent, width, rows, text, listing),
+        513..=4096 => print_in::<4096>(pool, root, indent, width, rows, text, listing),
         _ => print_in::<65536>(pool, root, indent, width, rows, text, listing),
     }
 }

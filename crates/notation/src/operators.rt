@@ -145,7 +145,8 @@ pub fn notation_ok(pool: &Pool<'_>) -> bool
     let names = &pool.names.tables;
     match names.strings.max(names.names) {
         0..=64 => given_once::<64>(pool),
-        65..=4096 => given_once::<4096>(pool),
+        65..=512 => given_once::<512>(pool),
+        513..=4096 => given_once::<4096>(pool),
         _ => given_once::<65536>(pool),
     }
 }
