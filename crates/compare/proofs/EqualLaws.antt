@@ -90,7 +90,7 @@ module _ (p : Pool) (sound : Sound p) (a b : ℕ) (ha : a < E p.words) (hb : b <
             ∙ same_self (expr_at p b))
 
       module _ (h : c < x) where
-        high_differs : (x + d ≡ y → ⊥) → Answer (Some false)
+        pub high_differs : (x + d ≡ y → ⊥) → Answer (Some false)
         high_differs n = answered _ _ false (differs_loose _ _ (λ q. n (sym (raised_high d c x h) ∙ sym lifted_is ∙ q ∙ sym loose_b)))
 
         pub below_differs : y < x → Answer (Some false)

@@ -3,14 +3,14 @@ use Prim.Native.Nat.{ℕ, suc, ◌+◌, ◌-◌, ◌<◌, ◌≤◌, min}
 use native.Mathlib.Nat.{add-zero}
 use native.Mathlib.Omega.{arith}
 use mathlib.Core.Bool.{Bool, true, false, cond}
-use mathlib.Core.List.{List, [], ◌∷◌, ◌++◌, append_assoc}
+use mathlib.Core.List.{List, [], ◌∷◌, ◌++◌, append_assoc, append-nil}
 use mathlib.Core.Path.{◌≡◌, refl, sym, ap, ◌∙◌}
 use lib.ListN.{length, get_or, take, drop, set, length-set, length-drop, drop_of_length-le}
 use lib.Seq.{drop-drop, length-take-le, sets, sets-eq}
 use borrow.Author.Tests.{lt-ltb}
 use borrow.Rule.Slice.PartMut.{put_mid, mid_of}
 use Rattle.std.specs.Option.{is_none}
-use Rattle.std.proofs.lemmas.List.{take_more}
+use Rattle.std.proofs.lemmas.List.{take_more, take-append-drop}
 use Rattle.document.specs.declared.written.Written.{Written}
 use Rattle.document.specs.Sink.{State, over, put_byte, put_bytes, room_of}
 use Rattle.document.specs.Sink.State.{state}
@@ -82,8 +82,20 @@ within s size n some h = go (is_none s.stop) refl h
     go true e h = (e, omega arith, omega arith)
     go false e h = absurd (omega arith)
 
-pub bytes_fit : (bs rows text : List ℕ) (s : Written) → 0 < length bs → length bs ≤ room_of s (length text)
+pub room_within : (s : Written) (size n : ℕ) → n ≤ room_of s size → (n ≤ size - s.text) × (n ≤ 65536 - s.text)
+room_within s size n h = go (is_none s.stop) h
+  where
+    go : (b : Bool) → n ≤ cond b (min size 65536 - s.text) 0 → (n ≤ size - s.text) × (n ≤ 65536 - s.text)
+    go true h = (omega arith, omega arith)
+    go false h = (omega arith, omega arith)
+
+over_none : (at : ℕ) (l : List ℕ) → over at [] l ≡ l
+over_none at l = rw (append-nil (take at l), add-zero at) (take-append-drop at l)
+
+pub bytes_fit : (bs rows text : List ℕ) (s : Written) → length bs ≤ room_of s (length text)
     → state rows (over s.text bs text) (further s (length bs)) ≡ put_bytes bs (state rows text s)
-bytes_fit bs rows text s some h =
-    let w = within s (length text) (length bs) some h in
-    ap (λ (l : List ℕ). state rows l (further s (length bs))) (sym (sets-eq bs text s.text w.2)) ∙ sym (bytes_going bs rows text s w.0 w.1 w.2)
+unfolding put_bytes
+bytes_fit [] rows text s h = rw (over_none s.text text, add-zero)
+bytes_fit (b ∷ bs) rows text s h =
+    let w = within s (length text) (length (b ∷ bs)) (omega arith) h in
+    ap (λ (l : List ℕ). state rows l (further s (length (b ∷ bs)))) (sym (sets-eq (b ∷ bs) text s.text w.2)) ∙ sym (bytes_going (b ∷ bs) rows text s w.0 w.1 w.2)

@@ -48,7 +48,7 @@ module _ (rows : List ℕ) (total count i : ℕ) (h : i < count) where
       let s : scan rows total count 0 ≡ i = sym e ∙ scan_here ∙ ap (λ (b : Bool). cond b (scan rows total (count - (i + 1)) (i + 1)) i) ok in
       sym (rw (s, lt-ltb i count h))
 
-fault_end : (rows : List ℕ) (total count i before last : ℕ) (b : Bool) → i ≤ count → count ≤ i → scan rows total (count - i) i ≡ scan rows total count 0
+pub fault_end : (rows : List ℕ) (total count i before last : ℕ) (b : Bool) → i ≤ count → count ≤ i → scan rows total (count - i) i ≡ scan rows total count 0
     → before ≡ text_before rows i → last ≡ word rows (count - 1) 3 → b ≡ eqb last count && eqb before total → cond b count (count - 1) ≡ fault rows total count
 unfolding fault scan whole
 fault_end rows total count i before last b p q e t l z =

@@ -2,6 +2,7 @@
 #![tactic(auto)]
 
 pub mod accepted;
+pub mod bytes;
 pub mod check;
 pub mod kinds;
 pub mod measures;

@@ -7,6 +7,7 @@ ghost use Rattle.document.specs.Codes.{row_code};
 ghost use Rattle.document.specs.Leaves.{Leaves, Begins};
 ghost use Rattle.document.specs.Rows.{Small};
 
+use crate::bytes::copy;
 use crate::kinds::RowKind;
 use crate::measures::{Measures, joined, measures_at, wrapped};
 use crate::written::{Stop, Written};
@@ -146,7 +147,7 @@ impl<'a> Sink<'a> {
         }
         let at = self.written.text;
         let end = at + bytes.len();
-        self.text[at..end].copy_from_slice(bytes);
+        copy(&mut self.text[at..end], bytes);
         self.written.text = end;
     }
 

@@ -14,7 +14,7 @@ use Rattle.equality.specs.Sweep.{Tied, PartBy, PartsBy, PutParts, LinkParts}
 
 -- ---- two parts
 
-tied_none : (F S : ℕ → Shape) (x y : ℕ) → x ≡ 0 → y ≡ 0 → Tied F S x y
+pub tied_none : (F S : ℕ → Shape) (x y : ℕ) → x ≡ 0 → y ≡ 0 → Tied F S x y
 unfolding Tied
 tied_none F S zero zero e q = refl
 tied_none F S zero (suc y) e q = absurd (omega arith)

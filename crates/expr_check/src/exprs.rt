@@ -67,7 +67,8 @@ fn scan_exprs(pool: &Pool<'_>, marks: &[u8], from: usize) -> Option<usize>
 }
 
 // The same in the whole table, where the rows before `from` are right: marks the strings first, in a table of N bytes, as nothing is
-// allocated.
+// allocated. Not inlined: the tables would stand in the frame of every check.
+#[inline(never)]
 fn scan_marked<const N: usize>(pool: &Pool<'_>, from: usize) -> Option<usize>
     requires room { S (read pool.now).names ≤ N }
     requires small { N ≤ 65536 }

@@ -3,6 +3,8 @@ ghost use Rattle.std.specs.Prelude.{◌≡◌, replicate};
 ghost use Rattle.layout.specs.Paint.{paint};
 ghost use Rattle.basics.specs.Lent.{was, left};
 
+use document::bytes::copy;
+
 // Copies as many bytes as fit into the part of the area that starts at a position; there may be no such part.
 #[tactic(auto, using(crate::proofs::Painting::put_in, crate::proofs::Painting::paint_past))]
 pub fn copy_at(area: &mut [u8], position: usize, bytes: &[u8])
@@ -10,7 +12,7 @@ pub fn copy_at(area: &mut [u8], position: usize, bytes: &[u8])
 {
     if position < area.len() {
         let n = bytes.len().min(area.len() - position);
-        area[position..position + n].copy_from_slice(&bytes[..n]);
+        copy(&mut area[position..position + n], &bytes[..n]);
     }
 }
 

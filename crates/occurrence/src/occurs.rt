@@ -5,7 +5,7 @@ ghost use Rattle.pool.specs.Tables.{E};
 ghost use Rattle.pool.specs.Tree.{occurs};
 ghost use Rattle.pool.specs.Unfold.{expr_at};
 ghost use Rattle.occurrence.specs.Parts.{part_of, occurs_at};
-ghost use Rattle.occurrence.specs.Asked.{Told, AtOnce};
+ghost use Rattle.occurrence.specs.Asked.{Told, AtOnce, EitherWay};
 
 use super::parts::Parts;
 use super::sweep;
@@ -32,10 +32,52 @@ fn at_once(pool: &CheckedPool<'_>, r: usize, i: usize) -> Option<bool>
     None
 }
 
-// In so many steps, which are taken off, and with no table; nothing where they do not do. The search goes on into a body, and where there
-// is none into the first part, by the loop: of long chains of binders and of arguments no call waits for another one.
+// Which of the two parts under the same variables a search goes through first.
+#[derive(Clone, Copy)]
+enum Way {
+    Forward,
+    Backward,
+}
+
+// The two parts, the one that comes first before the other.
+#[derive(Clone, Copy)]
+struct Order {
+    near: Option<usize>,
+    far: Option<usize>,
+}
+
+fn in_order(parts: &Parts, way: Way) -> Order
+    ensures { EitherWay (part_of parts.now.first) (part_of parts.now.second) (part_of result.near) (part_of result.far) }
+{
+    match way {
+        Way::Forward => Order {
+            near: parts.first,
+            far: parts.second,
+        },
+        Way::Backward => Order {
+            near: parts.second,
+            far: parts.first,
+        },
+    }
+}
+
+// What a part tells by itself: that the variable does not occur where there is none.
+#[inline(always)]
+fn part_at_once(pool: &CheckedPool<'_>, part: Option<usize>, i: usize) -> Option<bool>
+    requires { part_of part ≤ E (lent pool.now).words }
+    ensures { Told (occurs_at (lent pool.now) i (part_of part)) result }
+{
+    match part {
+        Some(r) => at_once(pool, r, i),
+        None => Some(false),
+    }
+}
+
+// In so many steps, one for each row that does not tell at once, which are taken off, and with no table; nothing where they do not do. The
+// search goes on into a body, and where there is none into the part that is left, by the loop: of long chains of binders, and of arguments
+// that tell at once, no call waits for another one.
 #[cycle(try_row)]
-fn try_row(pool: &CheckedPool<'_>, r: usize, i: usize, steps: &mut usize) -> Option<bool>
+fn try_row(pool: &CheckedPool<'_>, r: usize, i: usize, way: Way, steps: &mut usize) -> Option<bool>
     requires { r < E (lent pool.now).words }
     ensures { Told (occurs i (expr_at (lent pool.now) r)) result }
 {
@@ -48,14 +90,24 @@ fn try_row(pool: &CheckedPool<'_>, r: usize, i: usize, steps: &mut usize) -> Opt
         }
         *steps = steps.checked_sub(1)?;
         let parts = Parts::of(&pool.words, row, pool.words.expr_kind(row));
-        if try_part(pool, parts.second, i, steps)? {
+        let Order { near, far } = in_order(&parts, way);
+        // What tells at once is asked before the nearer part is searched.
+        let beyond = part_at_once(pool, far, i);
+        if beyond == Some(true) {
+            return Some(true);
+        }
+        if beyond == Some(false) && parts.body.is_none() {
+            part = near;
+            continue;
+        }
+        if try_part(pool, near, i, way, steps)? {
             return Some(true);
         }
         if parts.body.is_none() {
-            part = parts.first;
+            part = far;
             continue;
         }
-        if try_part(pool, parts.first, i, steps)? {
+        if try_part(pool, far, i, way, steps)? {
             return Some(true);
         }
         part = parts.body;
@@ -71,6 +123,7 @@ fn try_part(
     pool: &CheckedPool<'_>,
     part: Option<usize>,
     i: usize,
+    way: Way,
     steps: &mut usize,
 ) -> Option<bool>
     requires { part_of part ≤ E (lent pool.now).words }
@@ -83,7 +136,7 @@ fn try_part(
     if told.is_some() {
         return told;
     }
-    try_row(pool, r, i, steps)
+    try_row(pool, r, i, way, steps)
 }
 
 // The search with no end to its steps, for rows past every array of a sweep: an accepted pool has none.
@@ -121,17 +174,22 @@ fn sweep_all(pool: &CheckedPool<'_>, r: usize, i: usize) -> bool
     search(pool, Some(r), i)
 }
 
-// Most questions are answered in few steps. Where they are not, sixteen times as many are tried once more, if a sweep would go over more
-// rows than were tried. Not by `or_else`, as in `difference::trees::sweep_all`.
+// Most questions are answered in few steps, forward, or backward, since the part that tells may stand on either side of one that takes
+// long. Where they are not, sixteen times as many are tried forward, if a sweep would go over more rows than were tried; of so few rows
+// a sweep takes less than many steps do.
 pub fn has_var(pool: &CheckedPool<'_>, r: usize, i: usize) -> bool
     requires { r < E (lent pool.now).words }
     ensures { result ≡ occurs i (expr_at (lent pool.now) r) }
 {
-    if let Some(answer) = try_row(pool, r, i, &mut 256) {
+    if let Some(answer) = try_row(pool, r, i, Way::Forward, &mut 256) {
+        return answer;
+    }
+    let mut backward = if r <= 256 { r / 4 } else { 256 };
+    if let Some(answer) = try_row(pool, r, i, Way::Backward, &mut backward) {
         return answer;
     }
     if 256 < r {
-        if let Some(answer) = try_row(pool, r, i, &mut 4096) {
+        if let Some(answer) = try_row(pool, r, i, Way::Forward, &mut 4096) {
             return answer;
         }
     }

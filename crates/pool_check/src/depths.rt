@@ -38,7 +38,8 @@ fn scan<T: Deep>(pool: &Pool<'_>, depths: &mut [u8]) -> Option<usize>
     None
 }
 
-// The same with a table of depths of SIZE bytes.
+// The same with a table of depths of SIZE bytes. Not inlined: the tables would stand in the frame of every check.
+#[inline(never)]
 fn scan_in<T: Deep, const SIZE: usize>(pool: &Pool<'_>) -> Option<usize>
     requires room { T.table.count (read pool.now) ≤ SIZE }
     requires small { SIZE ≤ 65536 }

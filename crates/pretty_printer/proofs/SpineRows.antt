@@ -31,7 +31,7 @@ module _ (q : Printer) {k : Stack} {h r : ℕ} (a : Asked (pool_of q) k h r) {ar
   abbrev opts : PpOptions
   opts = options_of q
 
-  head_asked : Asked p k h head
+  pub head_asked : Asked p k h head
   head_asked = record { held = a.held; scope = a.scope; row = omega (arith, i.low, a.row) }
 
   pub spine_head : (st : State) →

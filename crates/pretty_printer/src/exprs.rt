@@ -68,7 +68,8 @@ pub fn pp_expr(p: &Printer<'_>, sink: &mut Sink<'_>, k: Stack, scope: usize, r: 
     }
 }
 
-// An expression in an application: what has no parts needs no stack, and no copy of it. Inlined, so that the stack is not copied here.
+// An expression in an application, or a group's type: what has no parts needs no stack, and no copy of it. Inlined, so that the stack is not
+// copied here.
 #[inline(always)]
 #[cycle(exprs)]
 fn pp_inside(p: &Printer<'_>, sink: &mut Sink<'_>, k: &Stack, scope: usize, r: usize, outer: usize)
@@ -428,7 +429,7 @@ pub fn telescope(
     open_group(sink, style, first);
     pp_names(p, sink, r, end.count);
     put_colon(sink);
-    pp_expr(p, sink, k, scope, its_type, 1);
+    pp_inside(p, sink, &k, scope, its_type, 1);
     close_group(sink, p.indent, style, first);
     let n = n - end.count;
     if n == 0 {

@@ -61,16 +61,17 @@ pub fn load(data: &[u8], at: usize, n: usize, area: &mut [u32]) {
     }
 }
 
-// Whether an area holds the wanted items, or as many as it has room for, and `rest` after them. That the iterator can go on, `can_next`, is
-// what Rattle asks of each call that takes items from an iterator of a type parameter.
-pub fn holds<T: PartialEq + Copy, W: ExactSizeIterator<Item = T> + Drop>(
-    area: &[T],
-    wanted: W,
-    rest: T,
-) -> bool
-    requires { W.can_next wanted }
-{
-    let n = wanted.len();
-    area.iter().zip(wanted).all(|(found, item)| *found == item)
-        && area.iter().skip(n).all(|found| *found == rest)
+// Whether an area holds the wanted items, or as many as it has room for, and `rest` after them.
+pub fn holds<T: PartialEq + Copy>(area: &[T], wanted: &[T], rest: T) -> bool {
+    area.iter().zip(wanted).all(|(found, item)| *found == *item)
+        && area.iter().skip(wanted.len()).all(|found| *found == rest)
+}
+
+// The same of words, wanted as bytes.
+pub fn holds_words(area: &[u32], wanted: &[u8], rest: u32) -> bool {
+    let words = wanted.as_chunks::<4>().0;
+    area.iter()
+        .zip(words)
+        .all(|(found, word)| *found == u32::from_le_bytes(*word))
+        && area.iter().skip(words.len()).all(|found| *found == rest)
 }

@@ -2,7 +2,7 @@
 // leave the document, then zeros, and the listing, or as much of it as fits, and then the guard; 20 and 21 leave rows and text zero; 5
 // and 6 change nothing.
 use crate::record::{AMPLE, Call, Document, Head};
-use records::holds;
+use records::{holds, holds_words};
 
 const GUARD: u8 = 0xa5;
 
@@ -43,13 +43,7 @@ impl Lent<'_> {
 
     // A document, and zeros after it.
     fn hold(&self, document: Document<'_>) -> bool {
-        let words = document
-            .rows
-            .as_chunks::<4>()
-            .0
-            .iter()
-            .map(|word| u32::from_le_bytes(*word));
-        holds(self.rows, words, 0) && holds(self.text, document.text.iter().copied(), 0)
+        holds_words(self.rows, document.rows, 0) && holds(self.text, document.text, 0)
     }
 
     // Zeros from word n of the rows and byte m of the text on.
@@ -80,7 +74,7 @@ impl Lent<'_> {
             Call::Ample | Call::Exact | Call::ListingShort => head.listing(data),
             _ => b"",
         };
-        holds(self.listing, listed.iter().copied(), GUARD)
+        holds(self.listing, listed, GUARD)
     }
 
     pub fn are_right(&self, data: &[u8], head: &Head, call: Call) -> bool {

@@ -7,6 +7,9 @@ const NAMES: [&str; 9] = [
     "ample", "exact", "21 text", "20 rows", "22 list", "5 expr", "5 declar", "6 indent", "6 width",
 ];
 
+// No count goes further.
+const MOST: u32 = 1000000;
+
 #[derive(Clone, Copy, Default)]
 struct Count {
     all: u32,
@@ -15,8 +18,8 @@ struct Count {
 
 impl Count {
     fn add(&mut self, right: bool) {
-        self.all = self.all.saturating_add(1);
-        self.right = self.right.saturating_add(u32::from(right));
+        self.all = self.all.saturating_add(1).min(MOST);
+        self.right = self.right.saturating_add(u32::from(right)).min(MOST);
     }
 
     fn show(&self, rt: &impl Print, name: &str) -> io::Result<()> {

@@ -62,7 +62,7 @@ pub record Run (k : Print) : Type 0 where
   pub answer : Answer
   pub left : Areas
 
--- a call returned it: what `lister::print_expr` or `lister::print_declar` ensures
+-- a call returned it: what `lister::print` ensures of a root
 abbrev pub Returned : {k : Print} → Run k → Type 0
 Returned {k} r =
     record { answer = r.answer; areas = r.left } ≡ call k r.source r.root r.indent r.width r.lent

@@ -19,7 +19,7 @@ fit true ps = letterlike ps
 fit false ps = all_rest ps
 
 -- of the first point, and of the others
-fit_next : (first : Bool) (c : ℕ) (ps : List ℕ) → fit first (c ∷ ps) ≡ cond first (is_start c) (is_rest c) && fit false ps
+pub fit_next : (first : Bool) (c : ℕ) (ps : List ℕ) → fit first (c ∷ ps) ≡ cond first (is_start c) (is_rest c) && fit false ps
 unfolding fit letterlike all_rest
 fit_next true c ps = refl
 fit_next false c ps = refl

@@ -11,7 +11,7 @@ use Rattle.utf8.specs.Utf8.{points_from, followers, lead_bits, with_bits}
 use Rattle.utf8.specs.Steps.{cap, Step}
 
 -- before a code point the bits do not matter
-fresh_points : (bits : ℕ) (s : List ℕ) → points_from 0 bits s ≡ points_from 0 0 s
+pub fresh_points : (bits : ℕ) (s : List ℕ) → points_from 0 bits s ≡ points_from 0 0 s
 unfolding points_from
 fresh_points bits [] = refl
 fresh_points bits (b ∷ s) = refl

@@ -18,7 +18,7 @@ use Rattle.std.specs.Char.{IsScalar}
 use Rattle.utf8.specs.Utf8.{utf8, utf8_from, within, with_bits, is_whole}
 
 -- before a code point the bits do not matter
-fresh : (bits least : ℕ) (s : List ℕ) → utf8_from 0 bits least s ≡ utf8 s
+pub fresh : (bits least : ℕ) (s : List ℕ) → utf8_from 0 bits least s ≡ utf8 s
 unfolding utf8 utf8_from
 fresh bits least [] = refl
 fresh bits least (b ∷ s) = refl
