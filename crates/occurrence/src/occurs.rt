@@ -73,9 +73,9 @@ fn part_at_once(pool: &CheckedPool<'_>, part: Option<usize>, i: usize) -> Option
     }
 }
 
-// In so many steps, one for each row that does not tell at once, which are taken off, and with no table; nothing where they do not do. The
-// search goes on into a body, and where there is none into the part that is left, by the loop: of long chains of binders, and of arguments
-// that tell at once, no call waits for another one.
+// In so many steps, one for each row that is met, which are taken off, and with no table; nothing where they do not do. The search goes on
+// into a body, and where there is none into the part that is left, by the loop: of long chains of binders, and of arguments that tell at
+// once, no call waits for another one.
 #[cycle(try_row)]
 fn try_row(pool: &CheckedPool<'_>, r: usize, i: usize, way: Way, steps: &mut usize) -> Option<bool>
     requires { r < E (lent pool.now).words }
@@ -84,11 +84,11 @@ fn try_row(pool: &CheckedPool<'_>, r: usize, i: usize, way: Way, steps: &mut usi
     let mut part = Some(r);
     let mut i = i;
     while let Some(row) = part {
+        *steps = steps.checked_sub(1)?;
         let told = at_once(pool, row, i);
         if told.is_some() {
             return told;
         }
-        *steps = steps.checked_sub(1)?;
         let parts = Parts::of(&pool.words, row, pool.words.expr_kind(row));
         let Order { near, far } = in_order(&parts, way);
         // What tells at once is asked before the nearer part is searched.
@@ -134,6 +134,7 @@ fn try_part(
     };
     let told = at_once(pool, r, i);
     if told.is_some() {
+        *steps = steps.checked_sub(1)?;
         return told;
     }
     try_row(pool, r, i, way, steps)
@@ -175,8 +176,8 @@ fn sweep_all(pool: &CheckedPool<'_>, r: usize, i: usize) -> bool
 }
 
 // Most questions are answered in few steps, forward, or backward, since the part that tells may stand on either side of one that takes
-// long. Where they are not, sixteen times as many are tried forward, if a sweep would go over more rows than were tried; of so few rows
-// a sweep takes less than many steps do.
+// long. Where they are not, 22 times as many are tried forward, if a sweep would go over more rows than were tried; of so few rows a sweep
+// takes less than many steps do.
 pub fn has_var(pool: &CheckedPool<'_>, r: usize, i: usize) -> bool
     requires { r < E (lent pool.now).words }
     ensures { result ≡ occurs i (expr_at (lent pool.now) r) }
@@ -184,12 +185,12 @@ pub fn has_var(pool: &CheckedPool<'_>, r: usize, i: usize) -> bool
     if let Some(answer) = try_row(pool, r, i, Way::Forward, &mut 256) {
         return answer;
     }
-    let mut backward = if r <= 256 { r / 4 } else { 256 };
+    let mut backward = if r <= 256 { r / 2 } else { 512 };
     if let Some(answer) = try_row(pool, r, i, Way::Backward, &mut backward) {
         return answer;
     }
     if 256 < r {
-        if let Some(answer) = try_row(pool, r, i, Way::Forward, &mut 4096) {
+        if let Some(answer) = try_row(pool, r, i, Way::Forward, &mut 5632) {
             return answer;
         }
     }
